@@ -1,0 +1,4 @@
+pub mod Splits
+pub mod Orders
+pub mod Sums
+pub mod Counts

@@ -1,0 +1,5 @@
+pub mod Samples
+pub mod Exact
+pub mod Halls
+pub mod Radios
+pub mod Kinds

@@ -1,0 +1,74 @@
+// Sample kinds: what a sample is, what can be done with it, and the laws that hold of every kind.
+ghost use mathlib.Core.Path.{_≡_};
+ghost use mathlib.Core.Bool.{cond};
+ghost use lib.Dec.{ltb};
+ghost use Rattle.std.specs.declared.option.Option.the-variants.{Some, None};
+ghost use Rattle.kinds.specs.Samples.{Ring-ops, Word-ops, Polar-ops, Ring-laws, Conjugation-laws, Word-laws, Sample-laws, Root-laws, Magnitude-laws};
+
+pub mod hall;
+pub mod hall_kind;
+pub mod radio;
+pub mod radio_kind;
+
+// A kind of samples. All arithmetic is on signed 64-bit words modulo 2^64, so no call refuses.
+pub trait Kind: Copy {
+    // The number of roots of one: even, from 2 to 64.
+    const ROOTS: u8;
+
+    // Zero, one, sum, difference, product and conjugate.
+    ghost ring: { Ring-ops Self };
+
+    // The two words of a sample, and the sample of two words.
+    ghost encoding: { Word-ops Self };
+
+    // The number of roots, the roots by their codes, and the magnitude.
+    ghost polar: { Polar-ops Self };
+
+    law algebra: { Ring-laws ring };
+
+    law conjugation: { Conjugation-laws ring };
+
+    law wordwise: { Word-laws ring encoding };
+
+    law encodes: { Sample-laws encoding };
+
+    law unity: { Root-laws ring polar };
+
+    law magnitudes: { Magnitude-laws ring encoding polar };
+
+    fn zero() -> Self
+        ensures { λ r. ⌜ r ≡ ring .zero ⌝ };
+
+    fn one() -> Self
+        ensures { λ r. ⌜ r ≡ ring .one ⌝ };
+
+    fn sum(self, other: Self) -> Self
+        ensures { λ r. ⌜ r ≡ ring .add self other ⌝ };
+
+    fn difference(self, other: Self) -> Self
+        ensures { λ r. ⌜ r ≡ ring .sub self other ⌝ };
+
+    fn product(self, other: Self) -> Self
+        ensures { λ r. ⌜ r ≡ ring .mul self other ⌝ };
+
+    fn conjugate(self) -> Self
+        ensures { λ r. ⌜ r ≡ ring .conj self ⌝ };
+
+    fn words(self) -> (i64, i64)
+        ensures { λ r. ⌜ r ≡ (encoding .first self, encoding .second self) ⌝ };
+
+    // The sample of two words: absent exactly if they are no sample's words.
+    fn from_words(first: i64, second: i64) -> Option<Self>
+        ensures { λ r. ⌜ r ≡ encoding .sample first second ⌝ };
+
+    // `ROOTS`, as a call that promises what it means.
+    fn root_count() -> u8
+        ensures { λ r. ⌜ r ≡ polar .count ⌝ };
+
+    // The root of a code: absent exactly if the code is not below the number of roots.
+    fn root(code: u8) -> Option<Self>
+        ensures { λ r. ⌜ r ≡ cond (ltb code (polar .count)) (Some (polar .root code)) None ⌝ };
+
+    fn magnitude(self) -> u64
+        ensures { λ r. ⌜ r ≡ polar .magnitude self ⌝ };
+}

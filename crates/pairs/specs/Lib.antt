@@ -1,0 +1,5 @@
+pub mod Tables
+pub mod Lines
+pub mod Pairs
+pub mod Stages
+pub mod Kernels
