@@ -8,6 +8,7 @@ use Rattle.std.proofs.shelf.Signed.{ints}
 use Rattle.kinds.specs.Samples.{Ring-laws, Conjugation-laws}
 use Rattle.kinds.specs.Exact.{integers, gaussian}
 
+-- a whole number a is `up a` minus `down a`, two natural numbers: those of a product and of a negation
 up-mul : (a b : ℤ) → up (a *ℤ b) ≡ up a * up b + down a * down b
 up-mul a b = product-is a b .0
 
@@ -67,6 +68,7 @@ integers-ring = record {
 pub integers-conjugation : Conjugation-laws integers
 integers-conjugation = record { conj-add = λ a b. refl; conj-mul = λ a b. refl; conj-conj = λ a. refl }
 
+-- two pairs with equal parts are equal
 both : {a b c d : ℤ} → a ≡ c → b ≡ d → _≡_ {A = ℤ × ℤ} (a, b) (c, d)
 both p q = λ i. (p i, q i)
 
@@ -82,6 +84,7 @@ gaussian-ring = record {
   mul-add = λ a b c. both (simp ring) (simp ring);
 }
 
+-- the two parts of the conjugate of a product
 conj-re : (x y u v : ℤ) → x *ℤ u -ℤ y *ℤ v ≡ x *ℤ u -ℤ negℤ y *ℤ negℤ v
 conj-re x y u v = simp ring
 

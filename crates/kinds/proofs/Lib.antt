@@ -1,3 +1,4 @@
+-- The proofs' own lemmas: on whole numbers and words, on any kind, on the two kinds, and on the ring of any kind.
 pub mod Integers
 pub mod Words
 pub mod Through

@@ -1,16 +1,16 @@
 -- The laws of the radio kind.
 use mathlib.Core.Path.{_≡_, refl, sym, ap, _∙_}
 use mathlib.Core.HLevel.{isProp→PathP}
-use Prim.Native.Nat.{ℕ, _<_, _≤_, _^_, max}
+use Prim.Native.Nat.{_<_, _^_, max}
 use native.Mathlib.Bridge.{le-prop}
 use native.Mathlib.Omega.{arith}
 use lib.Dec.{lit≤}
-use lib.IntN.{ℤ, pos, negsuc, _+ℤ_, _-ℤ_, _*ℤ_, negℤ, natAbs}
+use lib.IntN.{ℤ, pos, _+ℤ_, _-ℤ_, _*ℤ_, negℤ, natAbs}
 use lib.Signed.{mag, natAbs-le}
 use mir.Syntax.{w64}
 use mir.Val.{SFits}
 use Rattle.std.specs.shelf.Signed.{wrapped}
-use Rattle.std.specs.declared.option.Option.the-variants.{Some, None}
+use Rattle.std.specs.declared.option.Option.the-variants.{Some}
 use Rattle.std.proofs.shelf.Signed.{ints, wrapped-fits, wrapped-add-left, wrapped-mul-left}
 use Rattle.kinds.specs.declared.radio.Radio.{Radio}
 use Rattle.kinds.specs.Samples.{Ring-laws, Conjugation-laws, Word-laws, Sample-laws, Root-laws, Magnitude-laws}
@@ -22,6 +22,7 @@ use Rattle.kinds.proofs.Through.{Wraps, ring-through, conjugation-through}
 use Rattle.kinds.proofs.Roots.{roots-mul, roots-conj, powers-turn}
 use Rattle.kinds.proofs.Encodings.{same-some, samples-by}
 
+-- two samples with the same words are the same
 pub radio-path : {a b : Radio} → a .x ≡ b .x → a .y ≡ b .y → a ≡ b
 radio-path {a} {b} p q = λ i. record {
   x = p i;
@@ -29,12 +30,14 @@ radio-path {a} {b} p q = λ i. record {
   fits = (isProp→PathP (λ j. mag (p j) < 2 ^ 63) (λ j. le-prop) (a .fits .0) (b .fits .0) i, isProp→PathP (λ j. mag (q j) < 2 ^ 63) (λ j. le-prop) (a .fits .1) (b .fits .1) i);
 }
 
+-- the words of a sample are signed 64-bit numbers
 pub x-of : (r : Radio) → SFits w64 (r .x)
 x-of r = record { sfits = r .fits .0 }
 
 pub y-of : (r : Radio) → SFits w64 (r .y)
 y-of r = record { sfits = r .fits .1 }
 
+-- a sum, product or conjugate may be taken modulo 2 ^ 64 before or after
 radio-wraps : Wraps gaussian radio (λ r. (r .x, r .y))
 radio-wraps = record {
   back = λ r. radio-path (wrapped-fits w64 (r .x) (x-of r)) (wrapped-fits w64 (r .y) (y-of r));
@@ -67,17 +70,21 @@ radio-word-laws = record {
 }
 
 pub radio-sample-laws : Sample-laws radio-words
-radio-sample-laws = samples-by radio-words (λ r. ap Some (radio-wraps .back r)) (λ a b r f g e. let same = same-some (radio (a, b)) r e in (sym (ap (λ (s : Radio). s .x) same) ∙ wrapped-fits w64 a f, sym (ap (λ (s : Radio). s .y) same) ∙ wrapped-fits w64 b g))
+radio-sample-laws = samples-by radio-words (λ r. ap Some (radio-wraps .back r)) (λ a b r f g e.
+    let same = same-some (radio (a, b)) r e in
+    (sym (ap (λ (s : Radio). s .x) same) ∙ wrapped-fits w64 a f, sym (ap (λ (s : Radio). s .y) same) ∙ wrapped-fits w64 b g))
 
--- i, the first root
-abbrev turn-by : Radio
-turn-by = radio (pos 0, pos 1)
+-- i, the generator of the roots
+abbrev imaginary : Radio
+imaginary = radio (pos 0, pos 1)
 
-half : power radio-ring turn-by 2 ≡ radio-ring .sub (radio-ring .zero) (radio-ring .one)
+-- root 2 is zero minus one
+half : power radio-ring imaginary 2 ≡ radio-ring .sub (radio-ring .zero) (radio-ring .one)
 unfolding wrapped
 half = radio-path refl refl
 
-unit : radio-ring .mul (radio-ring .conj turn-by) turn-by ≡ radio-ring .one
+-- the conjugate of the generator times the generator is one
+unit : radio-ring .mul (radio-ring .conj imaginary) imaginary ≡ radio-ring .one
 unfolding wrapped
 unit = radio-path refl refl
 
@@ -88,8 +95,8 @@ radio-root-laws = record {
   most = lit≤ tt;
   root-zero = refl;
   root-half = half;
-  root-mul = roots-mul radio-ring-laws radio-conjugation-laws turn-by 2 half unit;
-  root-conj = roots-conj radio-ring-laws radio-conjugation-laws turn-by 2 half unit;
+  root-mul = roots-mul radio-ring-laws radio-conjugation-laws imaginary 2 half unit;
+  root-conj = roots-conj radio-ring-laws radio-conjugation-laws imaginary 2 half unit;
 }
 
 -- i(x + iy) = -y + ix
@@ -99,11 +106,12 @@ plain-x x y = omega (arith, ints)
 plain-y : (x y : ℤ) → pos 0 *ℤ y +ℤ pos 1 *ℤ x ≡ x
 plain-y x y = omega (arith, ints)
 
-turn : (r : Radio) → radio-polar .magnitude (radio-ring .mul turn-by r) ≡ radio-polar .magnitude r
+-- i times a sample has the sample's magnitude
+turn : (r : Radio) → radio-polar .magnitude (radio-ring .mul imaginary r) ≡ radio-polar .magnitude r
 turn r =
     let e = radio-wraps .mul-wrap (pos 0, pos 1) (r .x, r .y) in
-    let across : radio-ring .mul turn-by r .x ≡ wrapped w64 (negℤ (r .y)) = ap (λ (s : Radio). s .x) e ∙ ap (wrapped w64) (plain-x (r .x) (r .y)) in
-    let along : radio-ring .mul turn-by r .y ≡ r .x = ap (λ (s : Radio). s .y) e ∙ ap (wrapped w64) (plain-y (r .x) (r .y)) ∙ wrapped-fits w64 (r .x) (x-of r) in
+    let across : radio-ring .mul imaginary r .x ≡ wrapped w64 (negℤ (r .y)) = ap (λ (s : Radio). s .x) e ∙ ap (wrapped w64) (plain-x (r .x) (r .y)) in
+    let along : radio-ring .mul imaginary r .y ≡ r .x = ap (λ (s : Radio). s .y) e ∙ ap (wrapped w64) (plain-y (r .x) (r .y)) ∙ wrapped-fits w64 (r .x) (x-of r) in
     (λ i. max (natAbs (across i)) (natAbs (along i))) ∙ omega (arith, abs-neg-word (r .y) (y-of r))
 
 pub radio-magnitude-laws : Magnitude-laws radio-ring radio-words radio-polar
@@ -113,5 +121,5 @@ radio-magnitude-laws = record {
   second-least = λ r. omega arith;
   words-most = λ r. omega arith;
   triangle = λ r s. omega (arith, abs-wrapped (r .x +ℤ s .x), abs-sum (r .x) (s .x), abs-wrapped (r .y +ℤ s .y), abs-sum (r .y) (s .y));
-  root-magnitude = λ a r h. powers-turn radio-ring-laws radio-conjugation-laws turn-by (radio-polar .magnitude) turn a r;
+  root-magnitude = λ a r h. powers-turn radio-ring-laws radio-conjugation-laws imaginary (radio-polar .magnitude) turn a r;
 }

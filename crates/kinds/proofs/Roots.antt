@@ -1,5 +1,5 @@
--- The powers of one element as the roots of a kind.
-use mathlib.Core.Path.{_≡_, refl, sym, ap, _∙_}
+-- The powers of one element g, the generator, as the roots of a kind: the laws of roots from two facts about g.
+use mathlib.Core.Path.{_≡_, sym, ap, _∙_}
 use Prim.Native.Nat.{ℕ, zero, suc, _+_, _-_, _%_, _<_, _≤_}
 use native.Mathlib.Omega.{arith}
 use native.Mathlib.Nat.{zero-add, mod-eq-of-lt, mod-eq-sub-mod}
@@ -16,11 +16,12 @@ module _ {S : Type 0} {r : Ring-ops S} (l : Ring-laws r) (c : Conjugation-laws r
       more : suc (a + b) ≡ suc a + b
       more = omega arith
 
+  -- if g times a sample has the sample's magnitude, so has each power of g
   pub powers-turn : (m : S → ℕ) → ((x : S) → m (r .mul g x) ≡ m x) → (a : ℕ) (x : S) → m (r .mul (power r g a) x) ≡ m x
   powers-turn m turn zero x = ap m (l .one-mul x)
   powers-turn m turn (suc a) x = ap m (l .mul-assoc g (power r g a) x) ∙ turn _ ∙ powers-turn m turn a x
 
-  -- the power h is minus one, and g times its conjugate is one: then there are 2h roots
+  -- g to the power h is minus one, and the conjugate of g times g is one: then there are n = 2h roots
   module _ (h : ℕ) (half : power r g h ≡ r .sub (r .zero) (r .one)) (unit : r .mul (r .conj g) g ≡ r .one) where
     abbrev n : ℕ
     n = h + h
@@ -40,7 +41,7 @@ module _ {S : Type 0} {r : Ring-ops S} (l : Ring-laws r) (c : Conjugation-laws r
     pub roots-mul : (a b : ℕ) → a < n → b < n → r .mul (power r g a) (power r g b) ≡ power r g ((a + b) % n)
     roots-mul a b p q = power-add a b ∙ sym (power-mod (a + b) (omega arith))
 
-    -- a power times its conjugate
+    -- the conjugate of a power times the power is one
     units : (a : ℕ) → r .mul (r .conj (power r g a)) (power r g a) ≡ r .one
     units zero = ap (λ x. r .mul x (r .one)) (conj-one l c) ∙ l .one-mul _
     units (suc a) =

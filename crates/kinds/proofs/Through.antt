@@ -1,9 +1,9 @@
--- A ring whose elements are wrapped into samples leaves the samples a ring.
-use mathlib.Core.Path.{_≡_, refl, sym, ap, _∙_}
+-- The laws of a ring's arithmetic and conjugate hold of the samples that its elements are wrapped into.
+use mathlib.Core.Path.{_≡_, sym, ap, _∙_}
 use Rattle.kinds.specs.Samples.{Ring-ops, Ring-laws, Conjugation-laws}
 use Rattle.kinds.specs.Exact.{through}
 
--- `wrap` passes through the operations, and gives back each sample
+-- an operand may be wrapped before the operation or not, and a sample's element gives that sample back
 pub record Wraps {E S : Type 0} (e : Ring-ops E) (wrap : E → S) (plain : S → E) : Type 0 where
   pub back : (x : S) → wrap (plain x) ≡ x
   pub add-wrap : (a b : E) → wrap (e .add (plain (wrap a)) b) ≡ wrap (e .add a b)

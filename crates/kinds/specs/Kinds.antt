@@ -1,10 +1,12 @@
--- All that a kind means, and all that it shows. The three meanings are those of the trait's members.
+-- A kind as one: all that it means, and all the laws that it shows.
 use Rattle.kinds.specs.declared.Kind.{Ghosts}
 use Rattle.kinds.specs.Samples.{Ring-laws, Conjugation-laws, Word-laws, Sample-laws, Root-laws, Magnitude-laws}
 
+-- the meaning of a kind of samples S: the trait's ghost members `ring`, `encoding` and `polar`
 abbrev pub Kind-model : Type 0 → Type 1
 Kind-model S = Ghosts S
 
+-- the six laws of the trait, under their names there
 pub record Kind-laws {S : Type 0} (k : Kind-model S) : Type 0 where
   pub algebra : Ring-laws (k .ring)
   pub conjugation : Conjugation-laws (k .ring)

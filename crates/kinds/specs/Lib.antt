@@ -1,3 +1,4 @@
+-- The definitions that the contracts of the kinds cite.
 pub mod Samples
 pub mod Exact
 pub mod Halls

@@ -1,7 +1,22 @@
-// The whole numbers as a kind.
-ghost use Rattle.kinds.specs.Halls.{hall-ring, hall-words, hall-polar};
+// The hall kind: whole numbers modulo 2^64.
+ghost use mathlib.Core.Path.{_≡_};
+ghost use lib.IntN.{ℤ};
+ghost use Rattle.kinds.specs.Exact.{Alike};
+ghost use Rattle.kinds.specs.Halls.{hall, hall-ring, hall-words, hall-polar};
 use crate::Kind;
 use crate::hall::Hall;
+use crate::word::wrapping_add;
+use crate::word::wrapping_mul;
+use crate::word::wrapping_sub;
+
+impl Hall {
+    // The sample of a word, and so of every whole number z that has this word.
+    pub(crate) fn new(word: i64) -> Hall
+        ensures { λ r. ⌜ ((z : ℤ) → Alike word z → r ≡ hall z) ⌝ }
+    {
+        Hall { word }
+    }
+}
 
 pub impl Kind for Hall as HallKind {
     const ROOTS: u8 = 2;
@@ -13,29 +28,23 @@ pub impl Kind for Hall as HallKind {
     ghost polar = { hall-polar };
 
     fn zero() -> Hall {
-        Hall { word: 0 }
+        Hall::new(0)
     }
 
     fn one() -> Hall {
-        Hall { word: 1 }
+        Hall::new(1)
     }
 
     fn sum(self, other: Hall) -> Hall {
-        Hall {
-            word: self.word.wrapping_add(other.word),
-        }
+        Hall::new(wrapping_add(self.word, other.word))
     }
 
     fn difference(self, other: Hall) -> Hall {
-        Hall {
-            word: self.word.wrapping_sub(other.word),
-        }
+        Hall::new(wrapping_sub(self.word, other.word))
     }
 
     fn product(self, other: Hall) -> Hall {
-        Hall {
-            word: self.word.wrapping_mul(other.word),
-        }
+        Hall::new(wrapping_mul(self.word, other.word))
     }
 
     fn conjugate(self) -> Hall {
@@ -48,7 +57,7 @@ pub impl Kind for Hall as HallKind {
 
     fn from_words(first: i64, second: i64) -> Option<Hall> {
         if second == 0 {
-            Some(Hall { word: first })
+            Some(Hall::new(first))
         } else {
             None
         }
@@ -60,8 +69,8 @@ pub impl Kind for Hall as HallKind {
 
     fn root(code: u8) -> Option<Hall> {
         match code {
-            0 => Some(Hall { word: 1 }),
-            1 => Some(Hall { word: -1 }),
+            0 => Some(Hall::new(1)),
+            1 => Some(Hall::new(-1)),
             _ => None,
         }
     }

@@ -9,8 +9,9 @@ pub mod hall;
 pub mod hall_kind;
 pub mod radio;
 pub mod radio_kind;
+mod word;
 
-// A kind of samples. All arithmetic is on signed 64-bit words modulo 2^64, so no call refuses.
+// A kind of samples. All arithmetic is on signed 64-bit words modulo 2^64, so it has an answer for every sample.
 pub trait Kind: Copy {
     // The number of roots of one: even, from 2 to 64.
     const ROOTS: u8;
@@ -24,16 +25,22 @@ pub trait Kind: Copy {
     // The number of roots, the roots by their codes, and the magnitude.
     ghost polar: { Polar-ops Self };
 
+    // The samples are a commutative ring.
     law algebra: { Ring-laws ring };
 
+    // The conjugate passes through sums and products; twice conjugated is the sample itself.
     law conjugation: { Conjugation-laws ring };
 
+    // Sums and differences go word by word; the words of zero and one.
     law wordwise: { Word-laws ring encoding };
 
+    // The words of a sample give it back; two words give no sample exactly if they are no sample's words.
     law encodes: { Sample-laws encoding };
 
+    // The number of roots, and how roots multiply and conjugate.
     law unity: { Root-laws ring polar };
 
+    // The bounds of the magnitude, and what leaves it as it is.
     law magnitudes: { Magnitude-laws ring encoding polar };
 
     fn zero() -> Self
@@ -57,7 +64,7 @@ pub trait Kind: Copy {
     fn words(self) -> (i64, i64)
         ensures { λ r. ⌜ r ≡ (encoding .first self, encoding .second self) ⌝ };
 
-    // The sample of two words: absent exactly if they are no sample's words.
+    // The sample of two words; `None` exactly if they are no sample's words.
     fn from_words(first: i64, second: i64) -> Option<Self>
         ensures { λ r. ⌜ r ≡ encoding .sample first second ⌝ };
 
@@ -65,7 +72,7 @@ pub trait Kind: Copy {
     fn root_count() -> u8
         ensures { λ r. ⌜ r ≡ polar .count ⌝ };
 
-    // The root of a code: absent exactly if the code is not below the number of roots.
+    // The root of a code; `None` exactly if the code is not below the number of roots.
     fn root(code: u8) -> Option<Self>
         ensures { λ r. ⌜ r ≡ cond (ltb code (polar .count)) (Some (polar .root code)) None ⌝ };
 

@@ -3,3 +3,4 @@ pub mod Lines
 pub mod Pairs
 pub mod Stages
 pub mod Kernels
+pub mod Cascades

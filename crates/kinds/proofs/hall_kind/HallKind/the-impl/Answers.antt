@@ -1,3 +1,4 @@
+-- The laws of the hall kind.
 use Rattle.kinds.proofs.Halls.{hall-ring-laws, hall-conjugation-laws, hall-word-laws, hall-sample-laws, hall-root-laws, hall-magnitude-laws}
 use Rattle.kinds.proofs.hall_kind.HallKind.the-impl.Needs as need
 

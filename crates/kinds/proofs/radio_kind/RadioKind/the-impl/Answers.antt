@@ -1,3 +1,4 @@
+-- The laws of the radio kind.
 use Rattle.kinds.proofs.Radios.{radio-ring-laws, radio-conjugation-laws, radio-word-laws, radio-sample-laws, radio-root-laws, radio-magnitude-laws}
 use Rattle.kinds.proofs.radio_kind.RadioKind.the-impl.Needs as need
 
