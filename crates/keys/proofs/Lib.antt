@@ -1,1 +1,4 @@
 pub mod Loops
+pub mod Accepted
+pub mod Built
+pub mod Cascades
