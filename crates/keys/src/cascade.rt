@@ -1,13 +1,10 @@
 ghost use mathlib.Core.Path.{_≡_};
-ghost use Prim.Native.Nat.{ℕ, _*_, _^_, _<_};
-ghost use lib.ListN.{length, getD};
-ghost use Rattle.sums.specs.declared.Side.{Side};
-ghost use Rattle.sums.specs.Sums.{ones};
+ghost use lib.ListN.{getD};
 ghost use Rattle.sums.specs.Codes.{silent};
 ghost use Rattle.pairs.specs.Kernels.{kernel-codes, kernel-pending};
 ghost use Rattle.pairs.specs.Cascades.{cascade-codes, cascade-pending};
 ghost use Rattle.keys.specs.Plans.{plan-of, stages-for, at-rest};
-ghost use Rattle.keys.specs.Recursion.{kernel-of, key-code, Is-root};
+ghost use Rattle.keys.specs.Recursion.{kernel-of, Cascade-of-key};
 use crate::key::Key;
 use crate::stage::KeyStage;
 use kinds::Kind;
@@ -40,15 +37,10 @@ impl Key {
         }
     }
 
-    // The cascade of this key for the kind K, with nothing pending. Its codes are those of the recursion;
-    // each entry is one root, the span is the kernel times 2^n for the n stages that work, the energy twice the span.
-    pub fn cascade<K: Kind>(&self) -> Cascade<K>
-        ensures code { λ r. ⌜ cascade-codes K·Kind r .entry ≡ key-code K·Kind (plan-of (now (self .entry))) ⌝ }
-        ensures span { λ r. ⌜ cascade-codes K·Kind r .span ≡ now (self .entry) .kernel * 2 ^ length (stages-for (K·Kind .polar .count) (plan-of (now (self .entry)))) ⌝ }
-        ensures energy { λ r. ⌜ cascade-codes K·Kind r .energy ≡ 2 * cascade-codes K·Kind r .span ⌝ }
-        ensures counts { λ r. ⌜ cascade-codes K·Kind r .counts ≡ (λ side. ones (cascade-codes K·Kind r .span)) ⌝ }
-        ensures roots { λ r. ⌜ ((side : Side) (j : ℕ) → j < cascade-codes K·Kind r .span → Is-root (K·Kind .polar) (cascade-codes K·Kind r .entry side j)) ⌝ }
-        ensures lists { λ r. ⌜ cascade-pending K·Kind r ≡ silent (K·Kind .ring) ⌝ }
+    // The stages of this key over its kernel.
+    fn stages_over<K: Kind>(&self, kernel: Kernel<K>) -> Cascade<K>
+        requires { ⌜ kernel-codes K·Kind kernel ≡ kernel-of (K·Kind .ring) (now self .kernel) ⌝ ∗ ⌜ kernel-pending K·Kind kernel ≡ silent (K·Kind .ring) ⌝ }
+        ensures { λ r. ⌜ Cascade-of-key K·Kind (plan-of (now (self .entry))) (cascade-codes K·Kind r) (cascade-pending K·Kind r) ⌝ }
     {
         let s0 = self.stage_for::<K>(0);
         let s1 = self.stage_for::<K>(1);
@@ -57,12 +49,20 @@ impl Key {
         let s4 = self.stage_for::<K>(4);
         let s5 = self.stage_for::<K>(5);
         let s6 = self.stage_for::<K>(6);
-        let one = Stage::new(self.kernel_for(), s0.delay, s0.code);
+        let one = Stage::new(kernel, s0.delay, s0.code);
         let two = Stage::new(one, s1.delay, s1.code);
         let three = Stage::new(two, s2.delay, s2.code);
         let four = Stage::new(three, s3.delay, s3.code);
         let five = Stage::new(four, s4.delay, s4.code);
         let six = Stage::new(five, s5.delay, s5.code);
         Stage::new(six, s6.delay, s6.code)
+    }
+
+    // The cascade of this key for the kind K, with nothing pending. Its codes are those of the recursion;
+    // each entry is one root, the span is the kernel times 2^n for the n stages that work, the energy twice the span.
+    pub fn cascade<K: Kind>(&self) -> Cascade<K>
+        ensures { λ r. ⌜ Cascade-of-key K·Kind (plan-of (now (self .entry))) (cascade-codes K·Kind r) (cascade-pending K·Kind r) ⌝ }
+    {
+        self.stages_over(self.kernel_for())
     }
 }

@@ -48,12 +48,13 @@ fn has_delay(stages: &[KeyStage], wanted: u16) -> bool
     false
 }
 
-// Whether the delays are the kernel times 1, 2, 4 .. in some order.
-pub fn delays_fit(kernel: u8, stages: &[KeyStage]) -> bool
-    ensures value { λ r. ⌜ r ≡ is-set kernel (delays-of (now (stages .entry))) ⌝ }
-    ensures order { λ r. ⌜ (1 ≤ kernel → Decides r (In-some-order kernel (delays-of (now (stages .entry))))) ⌝ }
+// Whether the delays are `least` times 1, 2, 4 .. in some order.
+fn are_doublings(least: u16, stages: &[KeyStage]) -> bool
+    requires { ⌜ least < 256 ⌝ }
+    ensures value { λ r. ⌜ r ≡ is-set least (delays-of (now (stages .entry))) ⌝ }
+    ensures order { λ r. ⌜ (1 ≤ least → Decides r (In-some-order least (delays-of (now (stages .entry))))) ⌝ }
 {
-    let mut wanted = kernel as u16;
+    let mut wanted = least;
     for _i in 0..stages.len() {
         if !has_delay(stages, wanted) {
             return false;
@@ -61,6 +62,14 @@ pub fn delays_fit(kernel: u8, stages: &[KeyStage]) -> bool
         wanted = 2 * wanted;
     }
     true
+}
+
+// Whether the delays are the kernel times 1, 2, 4 .. in some order.
+pub fn delays_fit(kernel: u8, stages: &[KeyStage]) -> bool
+    ensures value { λ r. ⌜ r ≡ is-set kernel (delays-of (now (stages .entry))) ⌝ }
+    ensures order { λ r. ⌜ (1 ≤ kernel → Decides r (In-some-order kernel (delays-of (now (stages .entry))))) ⌝ }
+{
+    are_doublings(kernel as u16, stages)
 }
 
 // The first stage whose weight code is not below the number of roots.

@@ -6,8 +6,9 @@ use native.Mathlib.Omega.{arith}
 use lib.IntN.{ℤ, pos}
 use Rattle.std.proofs.shelf.Tests.{eq-eqb, ne-eqb, lt-ltb, and-left, and-from, cond-true, cond-false}
 use Rattle.kinds.specs.Samples.{Ring-ops, Word-ops, Word-laws, Sample-laws}
-use Rattle.pairs.specs.Tables.{words, written, or-zero, sample-of}
+use Rattle.pairs.specs.Tables.{words, zeros, written, or-zero, sample-of}
 use Rattle.pairs.specs.Lines.{latest, delayed}
+use Rattle.pairs.proofs.Tables.{zeros-at}
 use Rattle.pairs.specs.declared.line.DelayLine.{DelayLine}
 
 module _ {S : Type 0} (k : Ring-ops S) {e : Word-ops S} (encodes : Sample-laws e) where
@@ -19,8 +20,8 @@ module _ {S : Type 0} (k : Ring-ops S) {e : Word-ops S} (encodes : Sample-laws e
   sample-zero word = ap₂ (λ x y. sample-of k e (x, y)) (sym (word .first-zero)) (sym (word .second-zero)) ∙ sample-back (k .zero)
 
   -- a line over a table of zeros keeps zeros
-  pub line-zero : Word-laws k e → (s : DelayLine) → words (s .table) ≡ (λ i. (pos 0, pos 0)) → (d j : ℕ) → delayed k e s d j ≡ k .zero
-  line-zero word s none d j = ap (λ t. latest k e t (s .next) d j) none ∙ sample-zero word
+  pub line-zero : Word-laws k e → (s : DelayLine) → words (s .table) ≡ zeros 128 → (d j : ℕ) → delayed k e s d j ≡ k .zero
+  line-zero word s none d j = ap (λ t. latest k e t (s .next) d j) none ∙ ap (sample-of k e) (zeros-at 128 ((s .next + (256 - d) + j) % 128)) ∙ sample-zero word
 
 module _ {S : Type 0} (k : Ring-ops S) (e : Word-ops S) (old new : DelayLine) (d : ℕ) (v : ℤ × ℤ) (h : d ≤ 128)
     (put : words (new .table) ≡ written 128 (words (old .table)) (old .next % 128) v) (moved : new .next ≡ (old .next + 1) % 128) where

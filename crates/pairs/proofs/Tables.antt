@@ -10,7 +10,7 @@ use lib.IntN.{ℤ, pos}
 use lib.ListN.{getD, set, length, replicate}
 use lib.Seq.{getD-set-same, getD-set-other}
 use Rattle.std.proofs.shelf.Tests.{cond-both, cond-true, cond-false, cases-eq, eq-eqb, ne-eqb, lt-ltb, and-left, and-from}
-use Rattle.pairs.specs.Tables.{words, written}
+use Rattle.pairs.specs.Tables.{words, zeros, written}
 use Rattle.pairs.specs.declared.table.WordTable.{WordTable}
 
 getD-replicate : {A : Type 0} (n i : ℕ) (a : A) → getD (replicate n a) i a ≡ a
@@ -18,8 +18,9 @@ getD-replicate zero i a = refl
 getD-replicate (suc n) zero a = refl
 getD-replicate (suc n) (suc i) a = getD-replicate n i a
 
-pub new-words : (n : ℕ) → words {n = n} record { first = replicate n (pos 0); second = replicate n (pos 0) } ≡ (λ i. (pos 0, pos 0))
-new-words n = fun-ext (λ i. cond-both (ltb i n) _ _ (λ t. t ≡ (pos 0, pos 0)) (λ e. let z = getD-replicate n i (pos 0) in λ t. (z t, z t)) (λ e. refl))
+-- a table of zeros has zeros at every place
+pub zeros-at : (n i : ℕ) → zeros n i ≡ (pos 0, pos 0)
+zeros-at n i = cond-both (ltb i n) _ _ (λ t. t ≡ (pos 0, pos 0)) (λ e. let z = getD-replicate n i (pos 0) in λ t. (z t, z t)) (λ e. refl)
 
 pub put-words : (n : ℕ) (t : WordTable n) (i : ℕ) (v w : ℤ × ℤ) → i < n → i < length (t .first) → i < length (t .second) → w ≡ v → words {n = n} record { first = set (t .first) i (w .0); second = set (t .second) i (w .1) } ≡ written n (words t) i v
 put-words n t i v w h f s e =

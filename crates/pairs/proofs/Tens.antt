@@ -5,7 +5,7 @@ use mathlib.Core.Logic.{_≢_, ⊎-elim}
 use Prim.Native.Nat.{ℕ, _+_, _<_, _≤_}
 use native.Mathlib.Omega.{arith}
 use lib.Dec.{ltb}
-use lib.IntN.{ℤ, pos}
+use lib.IntN.{ℤ}
 use Rattle.std.proofs.shelf.Tests.{cases-lt, cases-eq, lt-ltb, eq-eqb, ne-eqb, and-left, and-from, cond-true, cond-false, cond-both}
 use Rattle.kinds.specs.Samples.{Ring-laws, Conjugation-laws, Word-laws, Sample-laws}
 use Rattle.kinds.specs.Kinds.{Kind-model}
@@ -16,7 +16,8 @@ use Rattle.golay.specs.Kernels.{ten-entry}
 use Rattle.sums.proofs.Places.{below-outside}
 use Rattle.golay.proofs.Tens.{ten-past}
 use Rattle.pairs.specs.Kernels.{nine, nine-each}
-use Rattle.pairs.specs.Tables.{written, sample-of}
+use Rattle.pairs.specs.Tables.{zeros, written, sample-of}
+use Rattle.pairs.proofs.Tables.{zeros-at}
 use Rattle.pairs.proofs.Lines.{sample-back, sample-zero}
 
 -- the first j places are done, the others are as they were
@@ -65,7 +66,7 @@ module _ {S : Type 0} (k : Kind-model S) where
       by B = h
 
   -- tables of zeros: nothing is pending
-  pub ten-silent : Word-laws (k .ring) (k .encoding) → Sample-laws (k .encoding) → (p q : ℕ → ℤ × ℤ) → p ≡ (λ i. (pos 0, pos 0)) → q ≡ (λ i. (pos 0, pos 0)) → nine-each k p q ≡ silent (k .ring)
+  pub ten-silent : Word-laws (k .ring) (k .encoding) → Sample-laws (k .encoding) → (p q : ℕ → ℤ × ℤ) → p ≡ zeros 9 → q ≡ zeros 9 → nine-each k p q ≡ silent (k .ring)
   ten-silent word encodes p q e h =
-      let zeros : nine k (λ i. (pos 0, pos 0)) ≡ (λ j. k .ring .zero) = fun-ext (λ j. cond-both (ltb j 9) _ _ (λ t. t ≡ k .ring .zero) (λ b. sample-zero (k .ring) encodes word) (λ b. refl)) in
-      each-is p q (silent (k .ring)) (ap (nine k) e ∙ zeros) (ap (nine k) h ∙ zeros)
+      let none : nine k (zeros 9) ≡ (λ j. k .ring .zero) = fun-ext (λ j. cond-both (ltb j 9) _ _ (λ t. t ≡ k .ring .zero) (λ b. ap (sample-of (k .ring) (k .encoding)) (zeros-at 9 j) ∙ sample-zero (k .ring) encodes word) (λ b. refl)) in
+      each-is p q (silent (k .ring)) (ap (nine k) e ∙ none) (ap (nine k) h ∙ none)

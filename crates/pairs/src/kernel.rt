@@ -8,6 +8,7 @@ use crate::ten::TenPair;
 use crate::unit::UnitKernel;
 use crate::unit::UnitPair;
 use kinds::Kind;
+use std::marker::PhantomData;
 use sums::Side;
 
 // Either kernel, so that cascades over both are of one type.
@@ -22,7 +23,7 @@ impl<K: Kind> Kernel<K> {
         ensures codes { λ r. ⌜ kernel-codes K·Kind r ≡ unit-codes (K·Kind .ring) ⌝ }
         ensures lists { λ r. ⌜ kernel-pending K·Kind r ≡ silent (K·Kind .ring) ⌝ }
     {
-        Kernel::Unit(UnitKernel::new())
+        Kernel::Unit(UnitKernel { kind: PhantomData })
     }
 
     pub fn ten() -> Self

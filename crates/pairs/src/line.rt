@@ -1,8 +1,7 @@
 ghost use mathlib.Core.Path.{_≡_};
 ghost use Prim.Native.Nat.{_+_, _%_};
-ghost use lib.IntN.{pos};
 ghost use Rattle.pairs.specs.Lines.{delayed};
-ghost use Rattle.pairs.specs.Tables.{words, written};
+ghost use Rattle.pairs.specs.Tables.{words, zeros, written};
 use crate::table::WordTable;
 use kinds::Kind;
 
@@ -15,7 +14,7 @@ pub struct DelayLine {
 
 impl DelayLine {
     pub fn new() -> Self
-        ensures table { λ r. ⌜ words (r .table) ≡ (λ i. (pos 0, pos 0)) ⌝ }
+        ensures table { λ r. ⌜ words (r .table) ≡ zeros 128 ⌝ }
         ensures next { λ r. ⌜ r .next ≡ 0 ⌝ }
     {
         DelayLine {
@@ -39,7 +38,7 @@ impl DelayLine {
     }
 
     pub fn clear(&mut self)
-        ensures table { λ _. ⌜ words (now (self .exit) .table) ≡ (λ i. (pos 0, pos 0)) ⌝ }
+        ensures table { λ _. ⌜ words (now (self .exit) .table) ≡ zeros 128 ⌝ }
         ensures next { λ _. ⌜ now (self .exit) .next ≡ now (self .entry) .next ⌝ }
     {
         self.table.clear();

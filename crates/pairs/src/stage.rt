@@ -4,6 +4,7 @@ ghost use Rattle.sums.specs.Sums.{late};
 ghost use Rattle.golay.specs.Stages.{weight-of, stage-codes, stage-pending};
 ghost use Rattle.pairs.specs.Pairs.{codes-of};
 ghost use Rattle.pairs.specs.Stages.{weight-in, codes-in, pending-in};
+ghost use Rattle.pairs.specs.Tables.{words, zeros};
 use crate::Pair;
 use crate::line::DelayLine;
 use kinds::Kind;
@@ -42,9 +43,18 @@ fn late_entry<P: Pair>(pair: &P, side: Side, delay: usize, k: usize) -> P::Sampl
     }
 }
 
+// With u = conj(w) times the oldest kept value: u + q and u - q.
+fn combined<K: Kind>(w: K, oldest: K, q: K) -> (K, K)
+    ensures { λ r. ⌜ r ≡ (K·Kind .ring .add (K·Kind .ring .mul (K·Kind .ring .conj w) oldest) q, K·Kind .ring .sub (K·Kind .ring .mul (K·Kind .ring .conj w) oldest) q) ⌝ }
+{
+    let u = w.conjugate().product(oldest);
+    (u.sum(q), u.difference(q))
+}
+
 impl<P: Pair> Stage<P> {
-    // A new stage keeps zeros.
-    pub fn new(below: P, delay: u8, code: u8) -> Self
+    // A stage over a line that keeps zeros.
+    fn with_line(below: P, delay: u8, code: u8, line: DelayLine) -> Self
+        requires { ⌜ words (line .table) ≡ zeros 128 ⌝ }
         ensures codes { λ r. ⌜ codes-in Sample·Kind (codes-of P·Pair) r ≡ stage-codes (Sample·Kind .ring) (weight-of (Sample·Kind .polar) delay code (codes-of P·Pair below)) delay (codes-of P·Pair below) ⌝ }
         ensures lists { λ r. ⌜ pending-in Sample·Kind (codes-of P·Pair) (P·Pair .pending) r ≡ stage-pending (Sample·Kind .ring) (weight-of (Sample·Kind .polar) delay code (codes-of P·Pair below)) delay (λ j. Sample·Kind .ring .zero) (P·Pair .pending below) ⌝ }
     {
@@ -52,8 +62,16 @@ impl<P: Pair> Stage<P> {
             below,
             delay,
             code,
-            line: DelayLine::new(),
+            line,
         }
+    }
+
+    // A new stage keeps zeros.
+    pub fn new(below: P, delay: u8, code: u8) -> Self
+        ensures codes { λ r. ⌜ codes-in Sample·Kind (codes-of P·Pair) r ≡ stage-codes (Sample·Kind .ring) (weight-of (Sample·Kind .polar) delay code (codes-of P·Pair below)) delay (codes-of P·Pair below) ⌝ }
+        ensures lists { λ r. ⌜ pending-in Sample·Kind (codes-of P·Pair) (P·Pair .pending) r ≡ stage-pending (Sample·Kind .ring) (weight-of (Sample·Kind .polar) delay code (codes-of P·Pair below)) delay (λ j. Sample·Kind .ring .zero) (P·Pair .pending below) ⌝ }
+    {
+        Stage::with_line(below, delay, code, DelayLine::new())
     }
 
     // The weight, none where the stage rests over a pair of this span and energy.
@@ -119,8 +137,8 @@ pub impl<P: Pair> Pair for Stage<P> as StagePair {
             return self.below.push(x);
         };
         let (p, q) = self.below.push(x);
-        let u = w.conjugate().product(self.line.exchange(self.delay, p));
-        (u.sum(q), u.difference(q))
+        let oldest = self.line.exchange(self.delay, p);
+        combined(w, oldest, q)
     }
 
     fn clear(&mut self) {

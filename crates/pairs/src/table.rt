@@ -1,6 +1,6 @@
 ghost use mathlib.Core.Path.{_≡_};
-ghost use lib.IntN.{pos};
-ghost use Rattle.pairs.specs.Tables.{words, written, sample-of};
+ghost use Prim.Native.Nat.{_<_};
+ghost use Rattle.pairs.specs.Tables.{words, zeros, written, sample-of};
 use kinds::Kind;
 
 // N places for the two words of a sample. Past the last place there are zeros, and nothing is written there.
@@ -12,7 +12,7 @@ pub struct WordTable<const N: usize> {
 
 impl<const N: usize> WordTable<N> {
     pub fn new() -> Self
-        ensures { λ r. ⌜ words r ≡ (λ i. (pos 0, pos 0)) ⌝ }
+        ensures { λ r. ⌜ words r ≡ zeros N ⌝ }
     {
         WordTable {
             first: [0; N],
@@ -34,13 +34,20 @@ impl<const N: usize> WordTable<N> {
         ensures { λ _. ⌜ words (now (self .exit)) ≡ written N (words (now (self .entry))) place value ⌝ }
     {
         if place < N {
-            self.first[place] = value.0;
-            self.second[place] = value.1;
+            self.write(place, value);
         }
     }
 
+    fn write(&mut self, place: usize, value: (i64, i64))
+        requires { ⌜ place < N ⌝ }
+        ensures { λ _. ⌜ words (now (self .exit)) ≡ written N (words (now (self .entry))) place value ⌝ }
+    {
+        self.first[place] = value.0;
+        self.second[place] = value.1;
+    }
+
     pub fn clear(&mut self)
-        ensures { λ _. ⌜ words (now (self .exit)) ≡ (λ i. (pos 0, pos 0)) ⌝ }
+        ensures { λ _. ⌜ words (now (self .exit)) ≡ zeros N ⌝ }
     {
         *self = WordTable::new();
     }

@@ -65,7 +65,7 @@ fn shift_in<K: Kind>(table: &mut WordTable<9>, side: Side, x: K) -> K
 }
 
 impl<K: Kind> TenKernel<K> {
-    pub fn new() -> Self
+    pub(crate) fn new() -> Self
         ensures { λ r. ⌜ ten-pending K·Kind r ≡ silent (K·Kind .ring) ⌝ }
     {
         TenKernel {
@@ -108,7 +108,6 @@ pub impl<K: Kind> Pair for TenKernel<K> as TenPair {
     }
 
     fn clear(&mut self) {
-        self.p.clear();
-        self.q.clear();
+        *self = TenKernel::new();
     }
 }

@@ -9,13 +9,7 @@ use sums::Side;
 // The unit kernel: A = 1, B = 1, span 1, energy 2. Nothing is ever pending.
 #[derive(Drop)]
 pub struct UnitKernel<K> {
-    kind: PhantomData<K>,
-}
-
-impl<K: Kind> UnitKernel<K> {
-    pub fn new() -> Self {
-        UnitKernel { kind: PhantomData }
-    }
+    pub(crate) kind: PhantomData<K>,
 }
 
 pub impl<K: Kind> Pair for UnitKernel<K> as UnitPair {

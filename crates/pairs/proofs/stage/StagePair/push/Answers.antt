@@ -22,23 +22,20 @@ returns g c =
     let below = codes-of (g .P·Pair) (s .below) in
     let pending = g .P·Pair .pending (s .below) in
     let old = delayed k (kind .encoding) (s .line) d in
-    let new = delayed k (kind .encoding) (c .exchange .last .self) d in
+    let new = delayed k (kind .encoding) (c .exchange-oldest .last .self) d in
     let w = c .in-Some .w in
     let is = c .in-Some .ensures tt .value in
     let works = works-from-weight (kind .polar) d (s .code) below w is in
     let out = c .weight .ensures .laws .entry-outside A in
     let came = c .push-p .ensures .sums in
-    let line = c .exchange .ensures in
-    let u : c .product-u .result ≡ k .mul (k .conj w) (old 0) = c .product-u .ensures ∙ ap₂ (k .mul) (c .conjugate .ensures) (line .oldest) in
+    let line = c .exchange-oldest .ensures in
     let q : c .push-p .result .1 ≡ answer k below pending x .1 = ap (λ r. r .1) came in
-    let sum = c .sum .ensures ∙ ap₂ (k .add) u q in
-    let difference = c .difference .ensures ∙ ap₂ (k .sub) u q in
     record {
-      sums = (λ i. (sum i, difference i)) ∙ subst (λ o. (k .add (k .mul (k .conj w) (old 0)) (answer k below pending x .1), k .sub (k .mul (k .conj w) (old 0)) (answer k below pending x .1)) ≡ answer k (stage-codes k o d below) (stage-pending k o d old pending) x) is (doubled-answer (laws .algebra) (laws .conjugation) w d below out old pending x (works .delay-least));
+      sums = c .combined .ensures ∙ ap₂ (λ o t. (k .add (k .mul (k .conj w) o) t, k .sub (k .mul (k .conj w) o) t)) (line .oldest) q ∙ subst (λ o. (k .add (k .mul (k .conj w) (old 0)) (answer k below pending x .1), k .sub (k .mul (k .conj w) (old 0)) (answer k below pending x .1)) ≡ answer k (stage-codes k o d below) (stage-pending k o d old pending) x) is (doubled-answer (laws .algebra) (laws .conjugation) w d below out old pending x (works .delay-least));
       lists = ap₂ (λ m p. stage-pending k (weight-of (kind .polar) d (s .code) m) d new p) (c .push-p .ensures .same) (c .push-p .ensures .lists)
       ∙ subst (λ o. stage-pending k o d new (pushed k below pending x) ≡ pushed k (stage-codes k o d below) (stage-pending k o d old pending) x) is
       (doubled-pushed (laws .algebra) (laws .conjugation) w d below out old new pending x
-      (λ j h. line-moved k (kind .encoding) (s .line) (c .exchange .last .self) d _ (works .delay-most) (line .table) (line .next) j h)
-      (λ j h. line-last k (laws .encodes) (s .line) (c .exchange .last .self) d _ (works .delay-most) (line .table) (line .next) j h ∙ ap (λ r. r .0) came));
+      (λ j h. line-moved k (kind .encoding) (s .line) (c .exchange-oldest .last .self) d _ (works .delay-most) (line .table) (line .next) j h)
+      (λ j h. line-last k (laws .encodes) (s .line) (c .exchange-oldest .last .self) d _ (works .delay-most) (line .table) (line .next) j h ∙ ap (λ r. r .0) came));
       same = ap (λ m. stage-codes k (weight-of (kind .polar) d (s .code) m) d m) (c .push-p .ensures .same);
     }

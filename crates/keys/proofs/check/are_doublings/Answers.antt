@@ -12,7 +12,7 @@ use Rattle.delays.proofs.Orders.{set-decides}
 use Rattle.keys.specs.declared.stage.KeyStage.{KeyStage}
 use Rattle.keys.specs.Judged.{delays-of}
 use Rattle.keys.proofs.Loops.{set-lacks, set-goes-on, set-ends}
-use Rattle.keys.proofs.check.delays_fit.Needs as need
+use Rattle.keys.proofs.check.are_doublings.Needs as need
 
 all-left : (kernel : ℕ) (ss : List KeyStage) → all-in (doublings kernel (length ss - 0)) (delays-of ss) ≡ is-set kernel (delays-of ss)
 all-left kernel ss = let n : length ss - 0 ≡ length (delays-of ss) = (let e = length-map ss (λ (s : KeyStage). s .delay) in omega arith) in ap (λ t. all-in (doublings kernel t) (delays-of ss)) n
@@ -21,7 +21,7 @@ ordered : (r : Bool) (kernel : ℕ) (ds : List ℕ) → r ≡ is-set kernel ds �
 ordered r kernel ds e one = decides-at r (is-set kernel ds) e (set-decides kernel ds one)
 
 pub loop-i-holds : need.loop-i-holds
-loop-i-holds c = (all-left (c .args .kernel) (c .args .stages .now), omega arith)
+loop-i-holds c = (all-left (c .args .least) (c .args .stages .now), omega arith)
 
 pub loop-i-again : need.loop-i-again
 loop-i-again c =

@@ -7,8 +7,8 @@ use Rattle.keys.specs.Plans.{plan-of, stages-for}
 use Rattle.keys.specs.Recursion.{kernel-of, Is-root}
 use Rattle.keys.proofs.Built.{Built, over, built, built-roots}
 use Rattle.keys.proofs.Cascades.{few-for, cascade-built, key-built, new-silent}
-use Rattle.keys.proofs.key.Key.cascade.Given as given
-use Rattle.keys.proofs.key.Key.cascade.Needs as need
+use Rattle.keys.proofs.key.Key.stages_over.Given as given
+use Rattle.keys.proofs.key.Key.stages_over.Needs as need
 
 meaning : (g : given.Over) (c : need.After-new g) → cascade-codes (g .K·Kind) (c .new .result) ≡ built (g .K·Kind) (stages-for (g .K·Kind .polar .count) (plan-of (c .args .self .now))) (kernel-of (g .K·Kind .ring) (c .args .self .now .kernel))
 meaning g c =
@@ -21,7 +21,7 @@ meaning g c =
     ∙ ap (over k (c .stage-for-s3 .result)) (c .new-three .ensures .codes
     ∙ ap (over k (c .stage-for-s2 .result)) (c .new-two .ensures .codes
     ∙ ap (over k (c .stage-for-s1 .result)) (c .new-one .ensures .codes
-    ∙ ap (over k (c .stage-for-s0 .result)) (c .kernel-for .ensures .codes)))))))
+    ∙ ap (over k (c .stage-for-s0 .result)) (c .pre .0)))))))
     ∙ cascade-built k (stages-for (k .polar .count) (plan-of key)) _ (few-for (k .polar .count) key) _ _ _ _ _ _ _ (c .stage-for-s0 .ensures) (c .stage-for-s1 .ensures) (c .stage-for-s2 .ensures) (c .stage-for-s3 .ensures) (c .stage-for-s4 .ensures) (c .stage-for-s5 .ensures) (c .stage-for-s6 .ensures)
 
 pub returns : need.returns
@@ -47,5 +47,5 @@ returns g c =
       ∙ below _ _ _ (c .new-three .ensures .lists
       ∙ below _ _ _ (c .new-two .ensures .lists
       ∙ below _ _ _ (c .new-one .ensures .lists
-      ∙ below _ _ _ (c .kernel-for .ensures .lists)))))));
+      ∙ below _ _ _ (c .pre .1)))))));
     }
