@@ -57,13 +57,13 @@ small-span {roots} {kernel} {stages} a =
     let few = a .few in
     ⊎-elim
     (λ e. let is : kernel ≡ 1 = eqb-true kernel 1 e in
-      let most : most-stages kernel ≡ 7 = ap most-stages is in
-      let fewer : length stages ≤ 7 = omega arith in
-      let power : 2 ^ length stages ≤ 2 ^ 7 = pow-mono fewer in
-      rw is (omega arith))
+    let most : most-stages kernel ≡ 7 = ap most-stages is in
+    let fewer : length stages ≤ 7 = omega arith in
+    let power : 2 ^ length stages ≤ 2 ^ 7 = pow-mono fewer in
+    rw is (omega arith))
     (λ e. let is : kernel ≡ 10 = eqb-true kernel 10 e in
-      let most : most-stages kernel ≡ 4 = ap most-stages is in
-      let fewer : length stages ≤ 4 = omega arith in
-      let power : 2 ^ length stages ≤ 2 ^ 4 = pow-mono fewer in
-      rw is (omega arith))
+    let most : most-stages kernel ≡ 4 = ap most-stages is in
+    let fewer : length stages ≤ 4 = omega arith in
+    let power : 2 ^ length stages ≤ 2 ^ 4 = pow-mono fewer in
+    rw is (omega arith))
     (or-cases (eqb kernel 1) (eqb kernel 10) (a .kernel-is))

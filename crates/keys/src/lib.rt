@@ -18,3 +18,6 @@ pub use refusal::KeyRefusalDebug;
 pub use refusal::KeyRefusalEq;
 pub use refusal::KeyRefusalPartialEq;
 pub use stage::KeyStage;
+pub use stage::KeyStageDebug;
+pub use stage::KeyStageEq;
+pub use stage::KeyStagePartialEq;

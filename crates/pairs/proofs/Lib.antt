@@ -1,3 +1,1 @@
-pub mod Tables
-pub mod Lines
 pub mod Tens

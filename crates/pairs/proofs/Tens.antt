@@ -16,9 +16,9 @@ use Rattle.golay.specs.Kernels.{ten-entry}
 use Rattle.sums.proofs.Places.{below-outside}
 use Rattle.golay.proofs.Tens.{ten-past}
 use Rattle.pairs.specs.Kernels.{nine, nine-each}
-use Rattle.pairs.specs.Tables.{zeros, written, sample-of}
-use Rattle.pairs.proofs.Tables.{zeros-at}
-use Rattle.pairs.proofs.Lines.{sample-back, sample-zero}
+use Rattle.tables.specs.Tables.{zeros, written, sample-of}
+use Rattle.tables.proofs.Tables.{zeros-at}
+use Rattle.tables.proofs.Lines.{sample-back, sample-zero}
 
 -- the first j places are done, the others are as they were
 pub record Shifted {S : Type 0} (k : Kind-model S) (side : Side) (x : S) (start table : ℕ → ℤ × ℤ) (j : ℕ) : Type 0 where

@@ -7,7 +7,7 @@ use Rattle.sums.specs.declared.Side.the-variants.{A, B}
 use Rattle.sums.specs.Sums.{below}
 use Rattle.sums.specs.Codes.{Codes, Pending, silent}
 use Rattle.golay.specs.Kernels.{unit-codes, ten-codes}
-use Rattle.pairs.specs.Tables.{words, sample-of}
+use Rattle.tables.specs.Tables.{words, sample-of}
 use Rattle.pairs.specs.declared.kernel.Kernel.{Kernel}
 use Rattle.pairs.specs.declared.kernel.Kernel.the-variants.{Unit, Ten}
 use Rattle.pairs.specs.declared.ten.TenKernel.{TenKernel}

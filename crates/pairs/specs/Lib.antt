@@ -1,5 +1,3 @@
-pub mod Tables
-pub mod Lines
 pub mod Pairs
 pub mod Stages
 pub mod Kernels

@@ -3,7 +3,7 @@ use Rattle.std.specs.declared.option.Option.{Option}
 use Rattle.kinds.specs.Kinds.{Kind-model}
 use Rattle.sums.specs.Codes.{Codes, Pending}
 use Rattle.golay.specs.Stages.{weight-of, stage-codes, stage-pending}
-use Rattle.pairs.specs.Lines.{delayed}
+use Rattle.tables.specs.Lines.{delayed}
 use Rattle.pairs.specs.declared.stage.Stage.{Stage}
 
 module _ {P S : Type 0} (k : Kind-model S) (codes : P → Codes S) where

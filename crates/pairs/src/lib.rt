@@ -11,9 +11,7 @@ use sums::Side;
 
 mod cascade;
 mod kernel;
-mod line;
 mod stage;
-mod table;
 mod ten;
 mod unit;
 
@@ -22,7 +20,6 @@ pub use kernel::Kernel;
 pub use kernel::KernelPair;
 pub use stage::Stage;
 pub use stage::StagePair;
-pub use table::WordTable;
 pub use ten::TenKernel;
 pub use ten::TenPair;
 pub use unit::UnitKernel;

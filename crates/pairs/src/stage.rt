@@ -4,11 +4,11 @@ ghost use Rattle.sums.specs.Sums.{late};
 ghost use Rattle.golay.specs.Stages.{weight-of, stage-codes, stage-pending};
 ghost use Rattle.pairs.specs.Pairs.{codes-of};
 ghost use Rattle.pairs.specs.Stages.{weight-in, codes-in, pending-in};
-ghost use Rattle.pairs.specs.Tables.{words, zeros};
+ghost use Rattle.tables.specs.Tables.{words, zeros};
 use crate::Pair;
-use crate::line::DelayLine;
 use kinds::Kind;
 use sums::Side;
+use tables::DelayLine;
 
 // A stage over a pair: with w the root of its weight code, A' = w A + B and B' = w A - B, B begun `delay` places late.
 // It rests, and means what the pair below means, if its delay is 0 or above 128, if its code is no root's,

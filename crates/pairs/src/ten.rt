@@ -3,12 +3,12 @@ ghost use Prim.Native.Nat.{_+_, _<_};
 ghost use Rattle.sums.specs.Codes.{silent, matching};
 ghost use Rattle.golay.specs.Kernels.{is-minus, signed, ten-entry, ten-codes};
 ghost use Rattle.pairs.specs.Kernels.{nine, ten-pending};
-ghost use Rattle.pairs.specs.Tables.{words};
+ghost use Rattle.tables.specs.Tables.{words};
 use crate::Pair;
-use crate::table::WordTable;
 use kinds::Kind;
 use std::marker::PhantomData;
 use sums::Side;
+use tables::WordTable;
 
 // The ten-entry kernel: ten signs of one on each side, span 10, energy 20, with nine sums pending on each side.
 #[derive(Drop)]

@@ -11,7 +11,7 @@ use kinds::radio_kind::RadioKind;
 use std::test::*;
 
 // The sample of two words, or zero if they are no sample's.
-fn sample<K: Kind>(first: i64, second: i64) -> K {
+pub(crate) fn sample<K: Kind>(first: i64, second: i64) -> K {
     match K::from_words(first, second) {
         Some(x) => x,
         None => K::zero(),

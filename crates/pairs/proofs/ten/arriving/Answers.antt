@@ -2,7 +2,7 @@ use mathlib.Core.Path.{_∙_, ap, ap₂, sym}
 use Rattle.golay.specs.Kernels.{signed}
 use Rattle.golay.proofs.Tens.{ten-arrives}
 use Rattle.pairs.specs.Kernels.{nine}
-use Rattle.pairs.specs.Tables.{words}
+use Rattle.tables.specs.Tables.{words}
 use Rattle.pairs.proofs.ten.arriving.Needs as need
 
 pub returns : need.returns

@@ -1,7 +1,7 @@
 use mathlib.Core.Path.{_≡_, ap, subst, sym, _∙_}
 use Prim.Native.Nat.{_<_, _+_}
 use native.Mathlib.Omega.{arith}
-use Rattle.pairs.specs.Tables.{words}
+use Rattle.tables.specs.Tables.{words}
 use Rattle.pairs.proofs.Tens.{Shifted, shifted-more, shifted-all}
 use Rattle.pairs.proofs.ten.shift_in.Needs as need
 

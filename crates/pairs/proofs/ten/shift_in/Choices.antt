@@ -1,4 +1,4 @@
-use Rattle.pairs.specs.Tables.{words}
+use Rattle.tables.specs.Tables.{words}
 use Rattle.pairs.proofs.Tens.{Shifted}
 use Rattle.pairs.proofs.ten.shift_in.Given as given
 

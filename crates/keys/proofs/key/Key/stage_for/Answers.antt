@@ -10,6 +10,6 @@ returns-then-i-self g c =
 pub returns-else-self-root-count : need.returns-else-self-root-count
 returns-else-self-root-count g c =
     elim (c .else-self-root-count .came) [
-      else-self-root-count·by·then-self-root-count·else-i-self w ↦ stage-past (g .K·Kind .polar .count) (c .args .self .now) (c .args .i) (w .if-i-self .left)
+      | else-self-root-count·by·then-self-root-count·else-i-self w ↦ stage-past (g .K·Kind .polar .count) (c .args .self .now) (c .args .i) (w .if-i-self .left)
       | else-self-root-count·by·else-self-root-count w ↦ stage-other (g .K·Kind .polar .count) (c .args .self .now) (c .args .i) (λ e. w .if-self-root-count .left (e ∙ sym (c .root-count .ensures)))
     ]

@@ -41,11 +41,11 @@ returns g c =
       counts = codes .counts-are;
       roots = subst (λ (m : Codes (g .K .Denot)). (side : Side) (j : ℕ) → j < m .span → Is-root (k .polar) (m .entry side j)) is (built-roots k (laws .algebra) (laws .conjugation) (laws .unity) (key .kernel) ss whole);
       lists = c .new .ensures .lists
-      ∙ below _ _ _ (c .new-six .ensures .lists
-      ∙ below _ _ _ (c .new-five .ensures .lists
-      ∙ below _ _ _ (c .new-four .ensures .lists
-      ∙ below _ _ _ (c .new-three .ensures .lists
-      ∙ below _ _ _ (c .new-two .ensures .lists
-      ∙ below _ _ _ (c .new-one .ensures .lists
-      ∙ below _ _ _ (c .pre .1)))))));
+          ∙ below _ _ _ (c .new-six .ensures .lists
+          ∙ below _ _ _ (c .new-five .ensures .lists
+          ∙ below _ _ _ (c .new-four .ensures .lists
+          ∙ below _ _ _ (c .new-three .ensures .lists
+          ∙ below _ _ _ (c .new-two .ensures .lists
+          ∙ below _ _ _ (c .new-one .ensures .lists
+          ∙ below _ _ _ (c .pre .1)))))));
     }

@@ -1,7 +1,7 @@
 use mathlib.Core.Path.{refl, ap, fun-ext}
 use Rattle.golay.specs.Stages.{weight-of, stage-pending}
 use Rattle.pairs.specs.Pairs.{codes-of}
-use Rattle.pairs.proofs.Lines.{line-zero}
+use Rattle.tables.proofs.Lines.{line-zero}
 use Rattle.pairs.proofs.stage.Stage.with_line.Needs as need
 
 pub returns : need.returns

@@ -4,7 +4,7 @@ use Rattle.std.specs.declared.option.Option.the-variants.{Some}
 use Rattle.sums.specs.Codes.{Pair-laws}
 use Rattle.golay.specs.Stages.{stage-codes, stage-pending}
 use Rattle.golay.proofs.StageLaws.{stage-laws}
-use Rattle.pairs.specs.Lines.{delayed}
+use Rattle.tables.specs.Lines.{delayed}
 use Rattle.pairs.specs.Pairs.{codes-of}
 use Rattle.pairs.proofs.stage.StagePair.size.Needs as need
 

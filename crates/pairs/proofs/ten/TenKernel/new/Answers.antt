@@ -1,4 +1,4 @@
-use Rattle.pairs.specs.Tables.{words}
+use Rattle.tables.specs.Tables.{words}
 use Rattle.pairs.proofs.Tens.{ten-silent}
 use Rattle.pairs.proofs.ten.TenKernel.new.Needs as need
 

@@ -1,5 +1,5 @@
 use mathlib.Core.Path.{refl}
-use Rattle.pairs.specs.Tables.{words}
+use Rattle.tables.specs.Tables.{words}
 use Rattle.pairs.proofs.Tens.{each-is}
 use Rattle.pairs.proofs.ten.TenPair.push.Needs as need
 

@@ -1,7 +1,7 @@
 use mathlib.Core.Path.{refl}
 use Rattle.golay.proofs.Tens.{ten-laws}
 use Rattle.pairs.specs.Kernels.{ten-pending}
-use Rattle.pairs.specs.Tables.{words}
+use Rattle.tables.specs.Tables.{words}
 use Rattle.pairs.proofs.Tens.{each-outside}
 use Rattle.pairs.proofs.ten.TenPair.size.Needs as need
 

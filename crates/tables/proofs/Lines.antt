@@ -6,10 +6,10 @@ use native.Mathlib.Omega.{arith}
 use lib.IntN.{ℤ, pos}
 use Rattle.std.proofs.shelf.Tests.{eq-eqb, ne-eqb, lt-ltb, and-left, and-from, cond-true, cond-false}
 use Rattle.kinds.specs.Samples.{Ring-ops, Word-ops, Word-laws, Sample-laws}
-use Rattle.pairs.specs.Tables.{words, zeros, written, or-zero, sample-of}
-use Rattle.pairs.specs.Lines.{latest, delayed}
-use Rattle.pairs.proofs.Tables.{zeros-at}
-use Rattle.pairs.specs.declared.line.DelayLine.{DelayLine}
+use Rattle.tables.specs.Tables.{words, zeros, written, or-zero, sample-of}
+use Rattle.tables.specs.Lines.{latest, delayed}
+use Rattle.tables.proofs.Tables.{zeros-at}
+use Rattle.tables.specs.declared.line.DelayLine.{DelayLine}
 
 module _ {S : Type 0} (k : Ring-ops S) {e : Word-ops S} (encodes : Sample-laws e) where
   -- a sample's words give it back

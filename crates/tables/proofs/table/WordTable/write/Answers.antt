@@ -4,8 +4,8 @@ use borrow.Author.Needs.{needs}
 use mir.Syntax.{w64}
 use mir.Val.{toZ, ofZ}
 use lib.ListN.{length}
-use Rattle.pairs.proofs.Tables.{put-words}
-use Rattle.pairs.proofs.table.WordTable.write.Needs as need
+use Rattle.tables.proofs.Tables.{put-words}
+use Rattle.tables.proofs.table.WordTable.write.Needs as need
 
 pub returns : need.returns
 returns g c =

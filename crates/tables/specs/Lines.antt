@@ -2,8 +2,8 @@
 use Prim.Native.Nat.{ℕ, _+_, _-_, _%_}
 use lib.IntN.{ℤ}
 use Rattle.kinds.specs.Samples.{Ring-ops, Word-ops}
-use Rattle.pairs.specs.Tables.{words, sample-of}
-use Rattle.pairs.specs.declared.line.DelayLine.{DelayLine}
+use Rattle.tables.specs.Tables.{words, sample-of}
+use Rattle.tables.specs.declared.line.DelayLine.{DelayLine}
 
 -- the d latest values, oldest first, of a table of 128 places where `next` is the place of the next value
 abbrev pub latest : {S : Type 0} → Ring-ops S → Word-ops S → (ℕ → ℤ × ℤ) → ℕ → ℕ → ℕ → S

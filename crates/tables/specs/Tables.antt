@@ -8,7 +8,7 @@ use lib.ListN.{getD, replicate}
 use Rattle.std.specs.declared.option.Option.{Option}
 use Rattle.std.specs.declared.option.Option.the-variants.{Some, None}
 use Rattle.kinds.specs.Samples.{Ring-ops, Word-ops}
-use Rattle.pairs.specs.declared.table.WordTable.{WordTable}
+use Rattle.tables.specs.declared.table.WordTable.{WordTable}
 
 -- two columns of n words, zeros past the last
 abbrev pub columns : ℕ → List ℤ → List ℤ → ℕ → ℤ × ℤ

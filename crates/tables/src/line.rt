@@ -1,7 +1,7 @@
 ghost use mathlib.Core.Path.{_≡_};
 ghost use Prim.Native.Nat.{_+_, _%_};
-ghost use Rattle.pairs.specs.Lines.{delayed};
-ghost use Rattle.pairs.specs.Tables.{words, zeros, written};
+ghost use Rattle.tables.specs.Lines.{delayed};
+ghost use Rattle.tables.specs.Tables.{words, zeros, written};
 use crate::table::WordTable;
 use kinds::Kind;
 

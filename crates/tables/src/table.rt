@@ -1,6 +1,6 @@
 ghost use mathlib.Core.Path.{_≡_};
 ghost use Prim.Native.Nat.{_<_};
-ghost use Rattle.pairs.specs.Tables.{words, zeros, written, sample-of};
+ghost use Rattle.tables.specs.Tables.{words, zeros, written, sample-of};
 use kinds::Kind;
 
 // N places for the two words of a sample. Past the last place there are zeros, and nothing is written there.

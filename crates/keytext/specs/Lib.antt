@@ -1,0 +1,4 @@
+pub mod Names
+pub mod Steps
+pub mod Numbers
+pub mod Stages
