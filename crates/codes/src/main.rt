@@ -7,7 +7,6 @@ mod text;
 use crate::request::Request;
 use crate::request::read_request;
 use crate::sheet::key_sheet;
-use crate::text::refusal_line;
 use keys::Key;
 use keys::KeyRefusal;
 use keytext::KindName;
@@ -16,6 +15,7 @@ use kinds::hall::Hall;
 use kinds::hall_kind::HallKind;
 use kinds::radio::Radio;
 use kinds::radio_kind::RadioKind;
+use scripts::key_refusal_text;
 use std::io;
 
 // Why a run ends without codes.
@@ -41,7 +41,7 @@ fn print_codes<K: Kind>(rt: &LibcRuntime, kind: KindName, key: &Key) -> io::Resu
 }
 
 fn print_refusal(rt: &LibcRuntime, refusal: KeyRefusal) -> io::Result<()> {
-    rt.println(refusal_line(rt.alloc(), refusal)?)
+    rt.println(key_refusal_text(rt.alloc(), refusal)?)
 }
 
 // Fills a key for the kind K, and prints its codes or why it is refused.

@@ -1,9 +1,8 @@
-// The texts that the sheet is made of, and the line of a refused key.
+// The texts that the sheet is made of.
 ghost use mathlib.Core.Path.{_≡_};
 ghost use Rattle.std.specs.Of.String.{string-bytes};
 ghost use Rattle.std.specs.Vec.{made};
-ghost use Rattle.codes.specs.Texts.{one-word, two-words, entry-of, refusal-with, refusal-of};
-use keys::KeyRefusal;
+ghost use Rattle.codes.specs.Texts.{one-word, two-words, entry-of};
 use keytext::KindName;
 use std::alloc::AllocError;
 use std::alloc::Global;
@@ -33,17 +32,4 @@ pub fn entry_text(
         KindName::Hall => one_word(heap, first),
         KindName::Radio => two_words(heap, first, second),
     }
-}
-
-fn refusal_with(heap: Global, number: u8, layer: u8, place: usize) -> Result<String, AllocError>
-    ensures { λ r. ⌜ made r (λ s. string-bytes s ≡ refusal-with number layer place) ⌝ }
-{
-    format!(heap, "refused {number} layer {layer} place {place}")
-}
-
-// Why a key is refused.
-pub fn refusal_line(heap: Global, refusal: KeyRefusal) -> Result<String, AllocError>
-    ensures { λ r. ⌜ made r (λ s. string-bytes s ≡ refusal-of refusal) ⌝ }
-{
-    refusal_with(heap, refusal.number(), refusal.layer(), refusal.place())
 }

@@ -10,6 +10,3 @@ pub use names::KindNamePartialEq;
 pub use names::kind_name;
 pub use numbers::number;
 pub use stages::stage;
-
-#[cfg(test)]
-mod tests;

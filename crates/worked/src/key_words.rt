@@ -1,10 +1,13 @@
-use crate::names::KindName;
-use crate::names::KindNameDebug;
-use crate::names::KindNamePartialEq;
-use crate::names::kind_name;
-use crate::numbers::number;
-use crate::stages::stage;
+// The words by which a key is written.
 use keys::KeyStage;
+use keys::KeyStageDebug;
+use keys::KeyStagePartialEq;
+use keytext::KindName;
+use keytext::KindNameDebug;
+use keytext::KindNamePartialEq;
+use keytext::kind_name;
+use keytext::number;
+use keytext::stage;
 use std::test::*;
 
 #[test]
@@ -33,15 +36,10 @@ fn numbers_are_digits_alone() -> Result<(), Fail> {
 
 #[test]
 fn stages_are_two_numbers() -> Result<(), Fail> {
-    check_eq(delay_and_code("1:0"), Some((1, 0)))?;
-    check_eq(delay_and_code("80:3"), Some((80, 3)))?;
+    check_eq(stage("1:0"), Some(KeyStage { delay: 1, code: 0 }))?;
+    check_eq(stage("80:3"), Some(KeyStage { delay: 80, code: 3 }))?;
     for word in ["1:", ":1", "1", "1:2:3", "1:x", ":"] {
         check(stage(word).is_none())?;
     }
     Ok(())
-}
-
-fn delay_and_code(word: &str) -> Option<(u8, u8)> {
-    let KeyStage { delay, code } = stage(word)?;
-    Some((delay, code))
 }

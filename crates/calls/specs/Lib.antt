@@ -1,0 +1,4 @@
+pub mod Phases
+pub mod Refusals
+pub mod Answers
+pub mod Runs

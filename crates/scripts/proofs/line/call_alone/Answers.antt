@@ -1,0 +1,11 @@
+use mathlib.Core.Path.{sym, _∙_}
+use Rattle.std.proofs.shelf.Tests.{cond-false}
+use Rattle.keytext.proofs.Texts.{differs}
+use Rattle.scripts.proofs.line.call_alone.Needs as need
+
+pub returns-in-rest : need.returns-in-rest
+returns-in-rest c =
+    sym
+    (cond-false _ _ _ (differs _ _ (c .in-rest .not-turn))
+    ∙ cond-false _ _ _ (differs _ _ (c .in-rest .not-close))
+    ∙ cond-false _ _ _ (differs _ _ (c .in-rest .not-abandon)))
