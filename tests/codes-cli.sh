@@ -1,42 +1,11 @@
 #!/bin/sh
 # Runs the program codes on a table of cases: tests/codes-cli.sh PATH-OF-codes
-set -eu
+name=codes
+. "$(dirname "$0")/cli.sh"
 
-if [ $# -ne 1 ]; then
-    echo "usage: $0 PATH-OF-codes" >&2
-    exit 2
-fi
-codes=$1
-dir=$(mktemp -d)
-trap 'rm -rf "$dir"' EXIT
-cases=0
-
-differs() {
-    echo "codes: case '$1' differs: $2" >&2
-    exit 1
-}
-
-# run WORDS: leaves standard output and standard error in files, and the status in $status
+# run WORDS: they hold no blank, so the shell may cut them apart
 run() {
-    status=0
-    # the words of a case hold no blank, so the shell may cut them apart
-    "$codes" $1 >"$dir/out" 2>"$dir/err" || status=$?
-    cases=$((cases + 1))
-}
-
-# The status, and an empty standard error.
-quiet() {
-    [ "$status" -eq "$2" ] || differs "$1" "status $status, not $2"
-    [ ! -s "$dir/err" ] || differs "$1" "standard error is not empty: $(cat "$dir/err")"
-}
-
-# What standard output holds, to the byte.
-prints() {
-    printf '%s\n' "$2" >"$dir/want"
-    cmp -s "$dir/want" "$dir/out" || differs "$1" "standard output is
-$(cat "$dir/out")
-and not
-$2"
+    run_with $1
 }
 
 # sheet WORDS SPAN ENERGY A B
@@ -70,10 +39,7 @@ refused() {
 # no_key WORDS: nothing on standard output, one usage line on standard error
 no_key() {
     run "$1"
-    [ "$status" -eq 1 ] || differs "$1" "status $status, not 1"
-    [ ! -s "$dir/out" ] || differs "$1" "standard output is not empty: $(cat "$dir/out")"
-    [ "$(wc -l <"$dir/err")" -eq 1 ] || differs "$1" "standard error is not one line"
-    grep -q '^usage: codes ' "$dir/err" || differs "$1" "standard error is not the usage line"
+    fails "$1" 'usage: codes '
 }
 
 sheet "hall 1" 1 2 "1" "1"

@@ -1,50 +1,12 @@
 #!/bin/sh
 # Runs the program replay on a table of cases: tests/replay-cli.sh PATH-OF-replay
-set -eu
-
-if [ $# -ne 1 ]; then
-    echo "usage: $0 PATH-OF-replay" >&2
-    exit 2
-fi
-replay=$1
+name=replay
 here=$(dirname "$0")
-dir=$(mktemp -d)
-trap 'rm -rf "$dir"' EXIT
-cases=0
+. "$here/cli.sh"
 
-differs() {
-    echo "replay: case '$1' differs: $2" >&2
-    exit 1
-}
-
-# run: gives the script in $dir/in to the program, and leaves standard output and standard error in files, the status in $status
+# run: gives the script in $dir/in to the program
 run() {
-    status=0
-    "$replay" <"$dir/in" >"$dir/out" 2>"$dir/err" || status=$?
-    cases=$((cases + 1))
-}
-
-# The status, and an empty standard error.
-quiet() {
-    [ "$status" -eq "$2" ] || differs "$1" "status $status, not $2"
-    [ ! -s "$dir/err" ] || differs "$1" "standard error is not empty: $(cat "$dir/err")"
-}
-
-# What standard output holds, to the byte.
-prints() {
-    printf '%s\n' "$2" >"$dir/want"
-    cmp -s "$dir/want" "$dir/out" || differs "$1" "standard output is
-$(cat "$dir/out")
-and not
-$2"
-}
-
-# Nothing on standard output, and one line on standard error that begins with these words.
-fails() {
-    [ "$status" -eq 1 ] || differs "$1" "status $status, not 1"
-    [ ! -s "$dir/out" ] || differs "$1" "standard output is not empty: $(cat "$dir/out")"
-    [ "$(wc -l <"$dir/err")" -eq 1 ] || differs "$1" "standard error is not one line: $(cat "$dir/err")"
-    grep -q "^replay: $2" "$dir/err" || differs "$1" "standard error is $(cat "$dir/err")"
+    run_with <"$dir/in"
 }
 
 # answers NAME LINES: the lines with their answers; without them they are the script
@@ -67,14 +29,14 @@ refused() {
 no_key() {
     printf '%s\nopen 1\n' "$1" >"$dir/in"
     run
-    fails "$1" "line 1: expected key "
+    fails "$1" "replay: line 1: expected key "
 }
 
 # no_call LINE: a bad line in the midst of good ones
 no_call() {
     printf 'key hall 1\nopen 1\n%s\nturn\nhum\n' "$1" >"$dir/in"
     run
-    fails "$1" "line 3: expected open N, "
+    fails "$1" "replay: line 3: expected open N, "
 }
 
 cp "$here/../examples/hall-room.script" "$dir/in"
@@ -230,7 +192,7 @@ refused "key radio 1 1:4" 4 0
 
 : >"$dir/in"
 run
-fails "empty input" "line 1: expected key "
+fails "empty input" "replay: line 1: expected key "
 
 no_key ""
 no_key "open 1"
@@ -274,16 +236,16 @@ no_call "tap 0 0"
 # A line that is no text, an input that can't be read, and an output that can't be written.
 printf 'key hall 1\nopen \377\n' >"$dir/in"
 run
-fails "no text" ""
+fails "no text" "replay: "
 rm "$dir/in"
 mkdir "$dir/in"
 run
-fails "a folder" ""
+fails "a folder" "replay: "
 rmdir "$dir/in"
 status=0
-printf 'key hall 1\n' | "$replay" 2>"$dir/err" >/dev/full || status=$?
+printf 'key hall 1\n' | "$program" 2>"$dir/err" >/dev/full || status=$?
 cases=$((cases + 1))
 : >"$dir/out"
-fails "a full disk" ""
+fails "a full disk" "replay: "
 
 echo "replay: $cases cases ok"
