@@ -1,4 +1,6 @@
 // The calls of a sounder with their answers and refusals, and what whole runs of calls mean.
+#![tactic(auto)]
+
 mod call;
 mod phase;
 mod refusal;

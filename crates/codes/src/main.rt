@@ -1,4 +1,6 @@
 // Prints the two codes of a key: codes KIND KERNEL [DELAY:CODE]...
+#![tactic(auto)]
+
 mod line;
 mod request;
 mod sheet;

@@ -1,4 +1,6 @@
 // Reads one sounding file from standard input, and writes its report or the line that says why it is refused: echotaps < file
+#![tactic(auto)]
+
 mod stop;
 
 use crate::stop::{Stop, tell};

@@ -1,4 +1,6 @@
 // A sounding file in, its report out.
+#![tactic(auto)]
+
 mod feeding;
 mod reporting;
 mod samples;

@@ -1,4 +1,6 @@
 // The line that says why a sounding file is refused.
+#![tactic(auto)]
+
 ghost use Rattle.std.specs.Prelude.{◌≡◌, IfOk, string_bytes};
 ghost use Rattle.filetext.specs.Lines.{line_of, line_with};
 

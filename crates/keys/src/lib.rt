@@ -1,4 +1,6 @@
 // Keys: which stages a cascade has.
+#![tactic(auto)]
+
 mod cascade;
 mod check;
 mod fill;

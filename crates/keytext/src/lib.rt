@@ -1,4 +1,6 @@
 // The words by which a key is written: KIND KERNEL [DELAY:CODE]...
+#![tactic(auto)]
+
 mod names;
 mod numbers;
 mod stages;

@@ -1,4 +1,6 @@
 // Sample kinds: what a sample is, what can be done with it, and the laws that hold of every kind.
+#![tactic(auto)]
+
 ghost use Rattle.std.specs.Prelude.{◌≡◌, if◌then◌else◌, Some, None, nat_lt};
 ghost use Rattle.kinds.specs.Samples.{RingOps, WordOps, PolarOps, RingLaws, ConjugationLaws, WordLaws, SampleLaws, RootLaws, MagnitudeLaws};
 

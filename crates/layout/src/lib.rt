@@ -1,4 +1,6 @@
 // Sounding files as bytes: their fields, the tests on them in their order, and the refusals of files.
+#![tactic(auto)]
+
 mod fields;
 mod head;
 mod key;

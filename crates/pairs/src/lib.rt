@@ -1,4 +1,6 @@
 // Pairs of complementary codes as correlators: the trait, the kernels, and stages over any pair.
+#![tactic(auto)]
+
 ghost use Rattle.std.specs.Prelude.{◌≡◌, ℕ, if◌then◌else◌, Some, None, nat_lt};
 ghost use Rattle.sums.specs.declared.Side.{Side};
 ghost use Rattle.sums.specs.Codes.{codes_at, PairLaws, answer, pushed, silent};

@@ -1,4 +1,6 @@
 // Gives the calls of a script to a sounder over the pair of a key, and prints the answers: replay < script
+#![tactic(auto)]
+
 mod script;
 mod sheet;
 mod sounding;

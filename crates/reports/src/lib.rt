@@ -1,4 +1,6 @@
 // The bytes of a report, written into a buffer.
+#![tactic(auto)]
+
 mod checking;
 mod writing;
 

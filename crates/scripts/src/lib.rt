@@ -1,4 +1,6 @@
 // The text of a script of calls: what the words of a line mean, and how answers are written.
+#![tactic(auto)]
+
 mod line;
 mod numbers;
 mod text;

@@ -1,4 +1,6 @@
 // A sounder over a pair of any kind: it takes two records and gives the taps of the room.
+#![tactic(auto)]
+
 mod calling;
 mod rounding;
 mod running;

@@ -1,4 +1,6 @@
 // Tables that keep samples as words: what a kernel, a stage and a sounder hold.
+#![tactic(auto)]
+
 mod line;
 mod table;
 

@@ -1,4 +1,6 @@
 // Worked examples, each a test: nothing here is for other crates to use.
+#![tactic(auto)]
+
 #[cfg(test)]
 mod code_sheets;
 #[cfg(test)]
