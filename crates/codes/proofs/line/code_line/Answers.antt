@@ -6,14 +6,14 @@ use Rattle.codes.proofs.line.code_line.Goals as goal
 
 pub loop-k-init : goal.loop-k-init
 loop-k-init g c =
-    c.in-ok-line.ensures.ok ∙ c.side-name.ensures ∙ sym (append-nil (name_of c.args.side))
+    c.in_ok-line.ensures.ok ∙ c.side_name.ensures ∙ sym (append-nil (name_of c.args.side))
 
 pub loop-k-preserved : goal.loop-k-preserved
 loop-k-preserved g c =
     let below : c.loop-k.k < g.P.Pair.span c.args.pair.now = omega (arith, c.span-k-end.ensures.value) in
     line_grows c.args.kind g.Sample.Kind.encoding c.args.side (g.P.Pair.code c.args.pair.now c.args.side)
-    (string_bytes c.loop-k.line) (string_bytes c.push-entry.new.line) c.loop-k.k c.entry-at.result
-    c.loop-k.invariant (c.entry-at.ensures below) c.in-ok-push-entry.ensures
+    (string_bytes c.loop-k.line) (string_bytes c.push_entry.new.line) c.loop-k.k c.entry_at.result
+    c.loop-k.invariant (c.entry_at.ensures below) c.in_ok-push_entry.ensures
 
 pub returns : goal.returns
 returns g c =

@@ -25,20 +25,20 @@ overflow-mul-width g c =
     let e : c.width.result * c.loop-t.t ≡ w * c.loop-t.t = ap (λ n. n * c.loop-t.t) c.width.ensures in
     omega arith
 
-pub returns-in-err-at-byte : goal.returns-in-err-at-byte
-returns-in-err-at-byte g c =
+pub returns-in_err-at_byte : goal.returns-in_err-at_byte
+returns-in_err-at_byte g c =
     let k = g.Sample.Kind in
     let was = state_of k g.P.Pair c.args.sounder.now in
     let f = sample_in c.args.kind c.args.bytes.now in
     let xs = samples_in c.args.kind c.args.bytes.now c.args.count in
     let t = c.loop-t.t in
     let l : t < length xs = omega (arith, length-map-range_with_len f 0 c.args.count) in
-    let x : get_or xs t none ≡ c.sample-at.result = get_or-map-range_with_len f 0 c.args.count t t none c.loop-t-test.true (omega arith) ∙ sym c.sample-at.ensures in
-    let p = err_from_is_err_and c.from-residual.result c.from-residual.ensures.1 in
-    let e = answers_some _ tt _ c.in-err-at-byte.ensures in
+    let x : get_or xs t none ≡ c.sample_at.result = get_or-map-range_with_len f 0 c.args.count t t none c.loop-t-test.true (omega arith) ∙ sym c.sample_at.ensures in
+    let p = err_from_is_err_and c.from_residual.result c.from_residual.ensures.1 in
+    let e = answers_some _ tt _ c.in_err-at_byte.ensures in
     let byte = ap (λ w. c.args.from + w * t) c.width.ensures in
-    let same = test_is k was (state_of k g.P.Pair c.loop-t.sounder) c.args.count t c.requires.0 c.loop-t.invariant.2 c.args.kind c.args.from _ (get_or xs t none) (done c.give-answer.result) c.sample-at.result.0 c.sample-at.result.1 c.loop-t-test.true x byte c.give-answer.ensures.value in
-    let all = sym (each_here (sample_test k was.codes c.args.kind c.args.from) xs t none c.in-err-at-byte.field-0.0 l (sym same ∙ e)) ∙ c.loop-t.invariant.0 in
+    let same = test_is k was (state_of k g.P.Pair c.loop-t.sounder) c.args.count t c.requires.0 c.loop-t.invariant.2 c.args.kind c.args.from _ (get_or xs t none) (done c.give-answer.result) c.sample_at.result.0 c.sample_at.result.1 c.loop-t-test.true x byte c.give-answer.ensures.value in
+    let all = sym (each_here (sample_test k was.codes c.args.kind c.args.from) xs t none c.in_err-at_byte.field-0.0 l (sym same ∙ e)) ∙ c.loop-t.invariant.0 in
     rw (p.1, p.2) (record { value = ap (λ o. unless o tt) all; state = tt; taken = tt })
 
 pub loop-t-preserved : goal.loop-t-preserved
@@ -50,10 +50,10 @@ loop-t-preserved g c =
     let xs = samples_in c.args.kind c.args.bytes.now c.args.count in
     let t = c.loop-t.t in
     let l : t < length xs = omega (arith, length-map-range_with_len f 0 c.args.count) in
-    let x : get_or xs t none ≡ c.sample-at.result = get_or-map-range_with_len f 0 c.args.count t t none c.loop-t-test.true (omega arith) ∙ sym c.sample-at.ensures in
-    let e = answers_none _ tt tt c.in-ok-at-byte.ensures in
+    let x : get_or xs t none ≡ c.sample_at.result = get_or-map-range_with_len f 0 c.args.count t t none c.loop-t-test.true (omega arith) ∙ sym c.sample_at.ensures in
+    let e = answers_none _ tt tt c.in_ok-at_byte.ensures in
     let byte = ap (λ w. c.args.from + w * t) c.width.ensures in
-    let said : done c.give-answer.result ≡ says k (Sample c.sample-at.result.0 c.sample-at.result.1) is = c.give-answer.ensures.value in
+    let said : done c.give-answer.result ≡ says k (Sample c.sample_at.result.0 c.sample_at.result.1) is = c.give-answer.ensures.value in
     let same = test_is k was is c.args.count t c.requires.0 c.loop-t.invariant.2 c.args.kind c.args.from _ (get_or xs t none) (done c.give-answer.result) _ _ c.loop-t-test.true x byte said in
     let ok = ap accepted (sym said) ∙ none_refused _ (done c.give-answer.result) e in (
       sym (each_later (sample_test k was.codes c.args.kind c.args.from) xs t none l (sym same ∙ e)) ∙ c.loop-t.invariant.0,

@@ -13,18 +13,18 @@ use Rattle.files.specs.Files.{tests_for, report_for, LawsFor, file_tests, report
 use Rattle.files.proofs.Answers.{refuses, keeps}
 use Rattle.files.proofs.reporting.report.Goals as goal
 
-pub returns-in-err-sounding : goal.returns-in-err-sounding
-returns-in-err-sounding c =
+pub returns-in_err-sounding : goal.returns-in_err-sounding
+returns-in_err-sounding c =
     let file = c.args.file.now in
     let out = c.args.out.now in
-    let p = err_from_is_err_and c.from-residual.result c.from-residual.ensures.1 in
+    let p = err_from_is_err_and c.from_residual.result c.from_residual.ensures.1 in
     let all = file_tests file (length out) in
     let rest = tests_for (plan_in file) (room_of file) (records_of file) (kind_of file) (room_byte_of file) (length file) (length out) in
-    let e : first_of all ≡ Some c.in-err-sounding.field-0.0 = stopped (layout_tests file) rest c.in-err-sounding.field-0.0 c.in-err-sounding.ensures.answer in
+    let e : first_of all ≡ Some c.in_err-sounding.field-0.0 = stopped (layout_tests file) rest c.in_err-sounding.field-0.0 c.in_err-sounding.ensures.answer in
     rw (p.1, p.2) (record {
-      order = comes all c.in-err-sounding.field-0.0 e;
-      value = refuses (first_of all) (length (report_of file)) c.in-err-sounding.field-0.0 e;
-      after = keeps (first_of all) (report_of file) out c.in-err-sounding.field-0.0 e;
+      order = comes all c.in_err-sounding.field-0.0 e;
+      value = refuses (first_of all) (length (report_of file)) c.in_err-sounding.field-0.0 e;
+      after = keeps (first_of all) (report_of file) out c.in_err-sounding.field-0.0 e;
       within = tt;
       laws = tt;
     })
@@ -33,23 +33,23 @@ pub returns : goal.returns
 returns c =
     let file = c.args.file.now in
     let out = c.args.out.now in
-    let s = c.in-ok-sounding.sounding in
-    let parsed = c.in-ok-sounding.ensures.answer in
+    let s = c.in_ok-sounding.sounding in
+    let parsed = c.in_ok-sounding.ensures.answer in
     let F = parsed.1 in
-    let P : plan_of c.parse.new.key ≡ plan_in file = c.in-ok-sounding.ensures.key in
+    let P : plan_of c.parse.new.key ≡ plan_in file = c.in_ok-sounding.ensures.key in
     let all = file_tests file (length out) in
     let rest = tests_for (plan_in file) (room_of file) (records_of file) (kind_of file) (room_byte_of file) (length file) (length out) in
     let past : first_of all ≡ first_of rest = passed (layout_tests file) rest parsed.0 in
-    let v : c.report-by-kind.result ≡ unless (first_of all) (length (report_of file)) =
-    c.report-by-kind.ensures.value
+    let v : c.report_by_kind.result ≡ unless (first_of all) (length (report_of file)) =
+    c.report_by_kind.ensures.value
     ∙ (λ j. unless (first_of (tests_for (P j) (F.room_is j) (F.records_are j) (F.kind_is j) (F.byte_is j) (length file) (length out))) (length (report_for (P j) (F.room_is j) (F.records_are j) (F.kind_is j))))
     ∙ ap (λ (o : Option FileRefusal). unless o (length (report_of file))) (sym past) in
     record {
-      order = in_order all (length (report_of file)) c.report-by-kind.result v;
+      order = in_order all (length (report_of file)) c.report_by_kind.result v;
       value = v;
-      after = c.report-by-kind.ensures.after
+      after = c.report_by_kind.ensures.after
           ∙ (λ j. buffer_after (first_of (tests_for (P j) (F.room_is j) (F.records_are j) (F.kind_is j) (F.byte_is j) (length file) (length out))) (report_for (P j) (F.room_is j) (F.records_are j) (F.kind_is j)) out)
           ∙ ap (λ (o : Option FileRefusal). buffer_after o (report_of file) out) (sym past);
-      within = c.report-by-kind.ensures.within;
-      laws = subst (λ (x : Type 0). x) (λ j. IfOk c.report-by-kind.result (λ _. LawsFor (P j) (F.room_is j) (F.records_are j) (F.kind_is j))) c.report-by-kind.ensures.laws;
+      within = c.report_by_kind.ensures.within;
+      laws = subst (λ (x : Type 0). x) (λ j. IfOk c.report_by_kind.result (λ _. LawsFor (P j) (F.room_is j) (F.records_are j) (F.kind_is j))) c.report_by_kind.ensures.laws;
     }

@@ -9,12 +9,12 @@ use Rattle.files.specs.Files.{file_tests, input_tests, report_of}
 use Rattle.files.proofs.Answers.{refuses, keeps}
 use Rattle.files.proofs.reporting.report_input.Goals as goal
 
-pub returns-then-is-too-long : goal.returns-then-is-too-long
-returns-then-is-too-long c =
+pub returns-then-is_too_long : goal.returns-then-is_too_long
+returns-then-is_too_long c =
     let input = c.args.input.now in
     let out = c.args.out.now in
     let all = input_tests input (length out) in
-    let e : first_of all ≡ Some (Length 8192) = cond-true _ _ _ (sym c.if-is-too-long.ensures) in
+    let e : first_of all ≡ Some (Length 8192) = cond-true _ _ _ (sym c.if-is_too_long.ensures) in
     record {
       order = comes all (Length 8192) e;
       value = refuses (first_of all) (length (report_of input)) (Length 8192) e;
@@ -28,7 +28,7 @@ returns c =
     let input = c.args.input.now in
     let out = c.args.out.now in
     let all = input_tests input (length out) in
-    let past : first_of all ≡ first_of (file_tests input (length out)) = cond-false _ _ _ (sym c.if-is-too-long.ensures) in
+    let past : first_of all ≡ first_of (file_tests input (length out)) = cond-false _ _ _ (sym c.if-is_too_long.ensures) in
     let v : c.report.result ≡ unless (first_of all) (length (report_of input)) = c.report.ensures.value ∙ ap (λ (o : Option FileRefusal). unless o (length (report_of input))) (sym past) in
     record {
       order = in_order all (length (report_of input)) c.report.result v;

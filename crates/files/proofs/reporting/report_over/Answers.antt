@@ -10,20 +10,20 @@ use Rattle.files.proofs.Answers.{refuses, keeps, taps_part, taps_count, taps_dec
 use Rattle.files.proofs.Steps.{made_any}
 use Rattle.files.proofs.reporting.report_over.Goals as goal
 
-pub returns-in-err-taps : goal.returns-in-err-taps
-returns-in-err-taps g c =
+pub returns-in_err-taps : goal.returns-in_err-taps
+returns-in_err-taps g c =
     let k = g.Sample.Kind in
     let d = codes_of g.P.Pair c.args.pair in
     let kind = c.args.sounding.kind in
     let room = c.args.sounding.room in
     let records = c.args.sounding.records.now in
     let out = c.args.out.now in
-    let p = err_from_is_err_and c.from-residual.result c.from-residual.ensures.1 in
+    let p = err_from_is_err_and c.from_residual.result c.from_residual.ensures.1 in
     let ts = taps k d kind room records in
     let all = sounding_tests k d kind room records c.args.sounding.room_byte c.args.size (length out) in
-    let e : first_of all ≡ Some c.in-err-taps.field-0.0 = stopped (record_tests k d kind room records c.args.sounding.room_byte c.args.size (length out)) (tap_tests c.args.size ts) c.in-err-taps.field-0.0 c.in-err-taps.ensures in
+    let e : first_of all ≡ Some c.in_err-taps.field-0.0 = stopped (record_tests k d kind room records c.args.sounding.room_byte c.args.size (length out)) (tap_tests c.args.size ts) c.in_err-taps.field-0.0 c.in_err-taps.ensures in
     let report = report_bytes kind room ts in
-    rw (p.1, p.2) (record { value = refuses (first_of all) (length report) c.in-err-taps.field-0.0 e; after = keeps (first_of all) report out c.in-err-taps.field-0.0 e; within = tt; laws = tt })
+    rw (p.1, p.2) (record { value = refuses (first_of all) (length report) c.in_err-taps.field-0.0 e; after = keeps (first_of all) report out c.in_err-taps.field-0.0 e; within = tt; laws = tt })
 
 pub returns : goal.returns
 returns g c =
@@ -36,19 +36,19 @@ returns g c =
     let size = c.args.size in
     let out = c.args.out.now in
     let ts = taps k d kind room records in
-    let S = c.in-ok-taps.ensures in
-    let same = taps_part room c.in-ok-taps.taps ts S.1.taps_are in
+    let S = c.in_ok-taps.ensures in
+    let same = taps_part room c.in_ok-taps.taps ts S.1.taps_are in
     let count = taps_count k d kind room records in
     let past = passed (record_tests k d kind room records at size (length out)) (tap_tests size ts) S.0 in
     let tested : first_of (report_tests kind ts size (length out)) ≡ first_of (tap_tests size ts) = taps_decide kind ts room size (length out) count S.1.room_least S.1.room_most S.1.placed in
     let all = tested ∙ sym past in
     record {
-      value = c.write-report.ensures.value
+      value = c.write_report.ensures.value
           ∙ (λ j. unless (first_of (report_tests kind (same j) size (length out))) (length (report_bytes kind (length (same j)) (same j))))
           ∙ (λ j. unless (all j) (length (report_bytes kind (count j) ts)));
-      within = c.write-report.ensures.within;
-      after = c.write-report.ensures.after
+      within = c.write_report.ensures.within;
+      after = c.write_report.ensures.after
           ∙ (λ j. buffer_after (first_of (report_tests kind (same j) size (length out))) (report_bytes kind (length (same j)) (same j)) out)
           ∙ (λ j. buffer_after (all j) (report_bytes kind (count j) ts) out);
-      laws = made_any c.write-report.result S.1.laws;
+      laws = made_any c.write_report.result S.1.laws;
     }

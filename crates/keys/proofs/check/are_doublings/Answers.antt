@@ -19,12 +19,12 @@ loop-i-init c = (all_left c.args.least c.args.stages.now, omega arith)
 
 pub loop-i-preserved : goal.loop-i-preserved
 loop-i-preserved c =
-    let has = c.if-not-has-delay.ensures in
+    let has = c.if-not-has_delay.ensures in
     (sym (set_goes_on _ _ _ _ c.loop-i-test.true (sym has.value)) ∙ c.loop-i.invariant.0, (let small = has.small refl in omega arith))
 
-pub returns-then-not-has-delay : goal.returns-then-not-has-delay
-returns-then-not-has-delay c =
-    let e = sym (set_lacks _ _ _ _ c.loop-i-test.true (sym c.if-not-has-delay.ensures.value)) ∙ c.loop-i.invariant.0 in
+pub returns-then-not-has_delay : goal.returns-then-not-has_delay
+returns-then-not-has_delay c =
+    let e = sym (set_lacks _ _ _ _ c.loop-i-test.true (sym c.if-not-has_delay.ensures.value)) ∙ c.loop-i.invariant.0 in
     record { value = e; order = ordered _ _ _ e }
 
 pub returns : goal.returns

@@ -38,7 +38,7 @@ returns c =
       fields_there (6 + length c.args.bytes.now) n (omega (arith, ltb-false)),
       record {
         stages_are = stages_all c.args.bytes.now n c.loop-i.stages _ (omega arith) (λ k h. c.loop-i.invariant.3 k (omega arith));
-        room_is = c.two-bytes-room.ensures ∙ room_in c.args.bytes.now c.loop-i.rest.now (2 * n) is;
+        room_is = c.two_bytes-room.ensures ∙ room_in c.args.bytes.now c.loop-i.rest.now (2 * n) is;
         rest_is = rests_are (2 ∷ []) c.args.bytes.now c.loop-i.rest.now (2 * n) is;
         enough = omega (arith, ltb-false);
       },

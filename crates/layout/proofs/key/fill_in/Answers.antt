@@ -2,5 +2,5 @@ use Rattle.layout.specs.Kinds.{roots}
 use Rattle.layout.proofs.KeyBytes.{key_small}
 use Rattle.layout.proofs.key.fill_in.Goals as goal
 
-pub in-file-requires : goal.in-file-requires
-in-file-requires c = key_small (roots c.args.kind) c.args.kernel c.args.stages.now _ c.requires c.fill-for.ensures.answer
+pub in_file-requires : goal.in_file-requires
+in_file-requires c = key_small (roots c.args.kind) c.args.kernel c.args.stages.now _ c.requires c.fill_for.ensures.answer

@@ -8,44 +8,44 @@ use Rattle.layout.proofs.Orders.{answers_some, answers_none}
 use Rattle.layout.proofs.FileTests.{stops_at_count, stops_at_fields, key_decides, plan_same, room_same, records_same, size_same}
 use Rattle.layout.proofs.parsing.parse.Goals as goal
 
-pub returns-in-err-check-count : goal.returns-in-err-check-count
-returns-in-err-check-count c =
-    let h = c.in-ok-head.ensures in
-    let p = err_from_is_err_and c.from-residual-in-err-check-count.result c.from-residual-in-err-check-count.ensures.1 in
-    let b = answers_some _ tt _ c.in-err-check-count.ensures in
-    rw (p.1, p.2) (record { answer = stops_at_count c.args.file.now h.0 c.in-ok-head.head h.1 _ b; key = refl })
+pub returns-in_err-check_count : goal.returns-in_err-check_count
+returns-in_err-check_count c =
+    let h = c.in_ok-head.ensures in
+    let p = err_from_is_err_and c.from_residual-in_err-check_count.result c.from_residual-in_err-check_count.ensures.1 in
+    let b = answers_some _ tt _ c.in_err-check_count.ensures in
+    rw (p.1, p.2) (record { answer = stops_at_count c.args.file.now h.0 c.in_ok-head.head h.1 _ b; key = refl })
 
-pub returns-in-err-fields : goal.returns-in-err-fields
-returns-in-err-fields c =
-    let h = c.in-ok-head.ensures in
-    let p = err_from_is_err_and c.from-residual-in-err-fields.result c.from-residual-in-err-fields.ensures.1 in
-    let b = answers_none _ tt tt c.in-ok-check-count.ensures in
-    rw (p.1, p.2) (record { answer = stops_at_fields c.args.file.now h.0 c.in-ok-head.head h.1 b _ c.in-err-fields.ensures; key = refl })
+pub returns-in_err-fields : goal.returns-in_err-fields
+returns-in_err-fields c =
+    let h = c.in_ok-head.ensures in
+    let p = err_from_is_err_and c.from_residual-in_err-fields.result c.from_residual-in_err-fields.ensures.1 in
+    let b = answers_none _ tt tt c.in_ok-check_count.ensures in
+    rw (p.1, p.2) (record { answer = stops_at_fields c.args.file.now h.0 c.in_ok-head.head h.1 b _ c.in_err-fields.ensures; key = refl })
 
-pub fill-in-requires : goal.fill-in-requires
-fill-in-requires c = search (rules, length-take)
+pub fill_in-requires : goal.fill_in-requires
+fill_in-requires c = search (rules, length-take)
 
-pub returns-in-err-fill-in : goal.returns-in-err-fill-in
-returns-in-err-fill-in c =
-    let h = c.in-ok-head.ensures in
-    let p = err_from_is_err_and c.from-residual-in-err-fill-in.result c.from-residual-in-err-fill-in.ensures.1 in
-    let b = answers_none _ tt tt c.in-ok-check-count.ensures in
-    let f = c.in-ok-fields.ensures in
-    let part : List KeyStage = take (c.in-ok-head.head.count - 0) c.in-ok-fields.fields.stages in
-    let is : part ≡ stages_in c.in-ok-head.head.rest.now c.in-ok-head.head.count = ap (λ n. take n c.in-ok-fields.fields.stages) (sub-zero _) ∙ f.1.stages_are in
-    let k = answers_some _ tt _ c.in-err-fill-in.ensures.answer in
-    rw (p.1, p.2) (record { answer = key_decides c.args.file.now h.0 c.in-ok-head.head h.1 b f.0 part is ∙ k; key = c.in-err-fill-in.ensures.key })
+pub returns-in_err-fill_in : goal.returns-in_err-fill_in
+returns-in_err-fill_in c =
+    let h = c.in_ok-head.ensures in
+    let p = err_from_is_err_and c.from_residual-in_err-fill_in.result c.from_residual-in_err-fill_in.ensures.1 in
+    let b = answers_none _ tt tt c.in_ok-check_count.ensures in
+    let f = c.in_ok-fields.ensures in
+    let part : List KeyStage = take (c.in_ok-head.head.count - 0) c.in_ok-fields.fields.stages in
+    let is : part ≡ stages_in c.in_ok-head.head.rest.now c.in_ok-head.head.count = ap (λ n. take n c.in_ok-fields.fields.stages) (sub-zero _) ∙ f.1.stages_are in
+    let k = answers_some _ tt _ c.in_err-fill_in.ensures.answer in
+    rw (p.1, p.2) (record { answer = key_decides c.args.file.now h.0 c.in_ok-head.head h.1 b f.0 part is ∙ k; key = c.in_err-fill_in.ensures.key })
 
 pub returns : goal.returns
 returns c =
     let file = c.args.file.now in
-    let head = c.in-ok-head.head in
-    let h = c.in-ok-head.ensures in
-    let b = answers_none _ tt tt c.in-ok-check-count.ensures in
-    let f = c.in-ok-fields.ensures in
-    let part : List KeyStage = take (c.in-ok-head.head.count - 0) c.in-ok-fields.fields.stages in
-    let is : part ≡ stages_in c.in-ok-head.head.rest.now c.in-ok-head.head.count = ap (λ n. take n c.in-ok-fields.fields.stages) (sub-zero _) ∙ f.1.stages_are in
-    let k = answers_none _ tt tt c.in-ok-fill-in.ensures.answer in
+    let head = c.in_ok-head.head in
+    let h = c.in_ok-head.ensures in
+    let b = answers_none _ tt tt c.in_ok-check_count.ensures in
+    let f = c.in_ok-fields.ensures in
+    let part : List KeyStage = take (c.in_ok-head.head.count - 0) c.in_ok-fields.fields.stages in
+    let is : part ≡ stages_in c.in_ok-head.head.rest.now c.in_ok-head.head.count = ap (λ n. take n c.in_ok-fields.fields.stages) (sub-zero _) ∙ f.1.stages_are in
+    let k = answers_none _ tt tt c.in_ok-fill_in.ensures.answer in
     let n = h.1.count_is in
     record {
       answer = (
@@ -58,5 +58,5 @@ returns c =
           size_is = size_same file h.0 head h.1 _ f.1.rest_is f.1.enough;
         },
       );
-      key = c.in-ok-fill-in.ensures.key ∙ plan_same file h.0 head h.1 b f.0 part is;
+      key = c.in_ok-fill_in.ensures.key ∙ plan_same file h.0 head h.1 b f.0 part is;
     }

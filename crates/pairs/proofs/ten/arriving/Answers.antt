@@ -11,5 +11,5 @@ returns g c =
     let kind = g.met.K.Kind in
     let x = c.args.x in
     c.sum.ensures
-    ∙ ap₂ k.add c.pending-at-waiting.ensures (c.with-sign.ensures ∙ ap (λ b. signed k b x) c.is_minus.ensures)
+    ∙ ap₂ k.add c.pending_at-waiting.ensures (c.with_sign.ensures ∙ ap (λ b. signed k b x) c.is_minus.ensures)
     ∙ sym (ten_arrives kind.algebra kind.conjugation c.args.side (nine g.K.Kind (words c.args.table.now)) x c.args.j c.requires)

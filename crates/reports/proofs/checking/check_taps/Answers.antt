@@ -9,13 +9,13 @@ use Rattle.reports.proofs.checking.check_taps.Goals as goal
 abbrev test : ℕ → ℕ → ℤ × ℤ → List Test
 test size i t = (tap_outside t, Tap i size) ∷ []
 
-pub returns-then-tap-outside : goal.returns-then-tap-outside
-returns-then-tap-outside c =
-    ap (λ o. unless o tt) (sym (each_here (test c.args.size) c.args.taps.now c.loop-index.index (pos 0, pos 0) (Tap c.loop-index.index c.args.size) c.loop-index-test.true (cond-true _ _ _ (sym c.if-tap-outside.ensures))) ∙ c.loop-index.invariant)
+pub returns-then-tap_outside : goal.returns-then-tap_outside
+returns-then-tap_outside c =
+    ap (λ o. unless o tt) (sym (each_here (test c.args.size) c.args.taps.now c.loop-index.index (pos 0, pos 0) (Tap c.loop-index.index c.args.size) c.loop-index-test.true (cond-true _ _ _ (sym c.if-tap_outside.ensures))) ∙ c.loop-index.invariant)
 
 pub loop-index-preserved : goal.loop-index-preserved
 loop-index-preserved c =
-    sym (each_later (test c.args.size) c.args.taps.now c.loop-index.index (pos 0, pos 0) c.loop-index-test.true (cond-false _ _ _ (sym c.if-tap-outside.ensures))) ∙ c.loop-index.invariant
+    sym (each_later (test c.args.size) c.args.taps.now c.loop-index.index (pos 0, pos 0) c.loop-index-test.true (cond-false _ _ _ (sym c.if-tap_outside.ensures))) ∙ c.loop-index.invariant
 
 pub returns : goal.returns
 returns c =

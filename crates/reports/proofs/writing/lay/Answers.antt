@@ -6,4 +6,4 @@ pub returns : goal.returns
 returns c =
     let d = c.args.out.now in
     let n = c.args.n in
-    ap₂ (λ (bs rest : List ℕ). take n d ++ (bs ++ rest)) c.copy-from-slice.ensures.after (ap (λ k. drop k (drop n d)) (omega arith) ∙ drop-drop (length c.args.bytes.now) n d)
+    ap₂ (λ (bs rest : List ℕ). take n d ++ (bs ++ rest)) c.copy_from_slice.ensures.after (ap (λ k. drop k (drop n d)) (omega arith) ∙ drop-drop (length c.args.bytes.now) n d)

@@ -13,10 +13,10 @@ pub loop-tap-preserved : goal.loop-tap-preserved
 loop-tap-preserved c =
     let w = width c.args.kind in
     let i = c.loop-tap.tap-index in
-    (omega (arith, mul-add w i 1, mul-one w), c.lay-tap.ensures ∙ ap (λ (o : List ℕ). laid o c.loop-tap.n (tap_bytes c.args.kind (get_or c.args.taps.now i (pos 0, pos 0)))) c.loop-tap.invariant.1 ∙ laid_more c.args.out.now c.args.from c.args.kind c.args.taps.now i c.loop-tap.n (pos 0, pos 0) c.loop-tap-test.true c.loop-tap.invariant.0 c.requires)
+    (omega (arith, mul-add w i 1, mul-one w), c.lay_tap.ensures ∙ ap (λ (o : List ℕ). laid o c.loop-tap.n (tap_bytes c.args.kind (get_or c.args.taps.now i (pos 0, pos 0)))) c.loop-tap.invariant.1 ∙ laid_more c.args.out.now c.args.from c.args.kind c.args.taps.now i c.loop-tap.n (pos 0, pos 0) c.loop-tap-test.true c.loop-tap.invariant.0 c.requires)
 
-pub lay-tap-requires : goal.lay-tap-requires
-lay-tap-requires c =
+pub lay_tap-requires : goal.lay_tap-requires
+lay_tap-requires c =
     let w = width c.args.kind in
     let i = c.loop-tap.tap-index in
     let m : w * (i + 1) ≤ w * length c.args.taps.now = mul-le-mul_left w (omega arith) in

@@ -12,9 +12,9 @@ returns c =
     let out = c.args.out.now in
     let all = flat_map (tap_bytes kind) taps in
     let front = report_head kind (length taps) in
-    let first : c.lay.new.out ≡ laid out 0 front = c.lay.ensures ∙ ap (laid out 0) c.head-of.ensures in
+    let first : c.lay.new.out ≡ laid out 0 front = c.lay.ensures ∙ ap (laid out 0) c.head_of.ensures in
     record {
       within = omega arith;
       size = omega (arith, length_taps kind taps);
-      after = c.lay-taps.ensures ∙ ap (λ (o : List ℕ). laid o 6 all) first ∙ laid_laid out 0 front all 6 (omega arith) refl ∙ ap (λ n. (front ++ all) ++ drop n out) (zero-add (length (front ++ all)));
+      after = c.lay_taps.ensures ∙ ap (λ (o : List ℕ). laid o 6 all) first ∙ laid_laid out 0 front all 6 (omega arith) refl ∙ ap (λ n. (front ++ all) ++ drop n out) (zero-add (length (front ++ all)));
     }

@@ -3,4 +3,4 @@ use Rattle.scripts.proofs.Digits.{behind_minus}
 use Rattle.scripts.proofs.numbers.word.Goals as goal
 
 pub returns-in-45 : goal.returns-in-45
-returns-in-45 c = c.minus-word.ensures ∙ behind_minus c.args.bytes.now (search rules) (search rules)
+returns-in-45 c = c.minus_word.ensures ∙ behind_minus c.args.bytes.now (search rules) (search rules)

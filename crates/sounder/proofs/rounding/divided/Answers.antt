@@ -6,25 +6,25 @@ use Rattle.sounder.proofs.rounding.divided.Goals as goal
 pub overflow-cast-result : goal.overflow-cast-result
 overflow-cast-result c =
     let z = c.args.z in
-    let q = c.nearest-magnitude-q.result in
-    down_fits q (found_most z c.args.e q c.requires c.ranges.z (found z c.args.e q c.ranges.z c.nearest-magnitude-q.ensures))
+    let q = c.nearest_magnitude-q.result in
+    down_fits q (found_most z c.args.e q c.requires c.ranges.z (found z c.args.e q c.ranges.z c.nearest_magnitude-q.ensures))
 
 pub overflow-cast-result-else-z-lt0 : goal.overflow-cast-result-else-z-lt0
 overflow-cast-result-else-z-lt0 c =
     let z = c.args.z in
-    let q = c.nearest-magnitude-q.result in
-    up_fits q (found_below z c.args.e q c.requires c.ranges.z (omega (arith, ints)) (found z c.args.e q c.ranges.z c.nearest-magnitude-q.ensures))
+    let q = c.nearest_magnitude-q.result in
+    up_fits q (found_below z c.args.e q c.requires c.ranges.z (omega (arith, ints)) (found z c.args.e q c.ranges.z c.nearest_magnitude-q.ensures))
 
 pub returns-then-z-lt0 : goal.returns-then-z-lt0
 returns-then-z-lt0 c =
     let z = c.args.z in
-    let q = c.nearest-magnitude-q.result in
-    let is = found z c.args.e q c.ranges.z c.nearest-magnitude-q.ensures in
+    let q = c.nearest_magnitude-q.result in
+    let is = found z c.args.e q c.ranges.z c.nearest_magnitude-q.ensures in
     down_is q (found_most z c.args.e q c.requires c.ranges.z is) ∙ ap (λ n. neg_ℤ (pos n)) is ∙ sym (rounded_below z c.args.e (omega (arith, ints)))
 
 pub returns-else-z-lt0 : goal.returns-else-z-lt0
 returns-else-z-lt0 c =
     let z = c.args.z in
-    let q = c.nearest-magnitude-q.result in
-    let is = found z c.args.e q c.ranges.z c.nearest-magnitude-q.ensures in
+    let q = c.nearest_magnitude-q.result in
+    let is = found z c.args.e q c.ranges.z c.nearest_magnitude-q.ensures in
     up_is q (found_below z c.args.e q c.requires c.ranges.z (omega (arith, ints)) is) ∙ ap pos is ∙ sym (rounded_above z c.args.e (omega (arith, ints)))

@@ -5,11 +5,11 @@ use Rattle.keys.proofs.key.Key.stage_for.Goals.{else-self-root-count-via-then-se
 
 pub returns-then-i-self : goal.returns-then-i-self
 returns-then-i-self g c =
-    stage_held g.K.Kind.polar.count c.args.self.now c.args.i (c.if-self-root-count.true ∙ c.root-count.ensures) c.if-i-self.true
+    stage_held g.K.Kind.polar.count c.args.self.now c.args.i (c.if-self-root_count.true ∙ c.root_count.ensures) c.if-i-self.true
 
-pub returns-else-self-root-count : goal.returns-else-self-root-count
-returns-else-self-root-count g c =
-    elim c.else-self-root-count.branch [
+pub returns-else-self-root_count : goal.returns-else-self-root_count
+returns-else-self-root_count g c =
+    elim c.else-self-root_count.branch [
       | else-self-root-count-via-then-self-root-count+else-i-self w ↦ stage_past g.K.Kind.polar.count c.args.self.now c.args.i w.if-i-self.false
-      | else-self-root-count-via-else-self-root-count w ↦ stage_other g.K.Kind.polar.count c.args.self.now c.args.i (λ e. w.if-self-root-count.false (e ∙ sym c.root-count.ensures))
+      | else-self-root-count-via-else-self-root-count w ↦ stage_other g.K.Kind.polar.count c.args.self.now c.args.i (λ e. w.if-self-root_count.false (e ∙ sym c.root_count.ensures))
     ]

@@ -14,14 +14,14 @@ meaning g c =
     let k = g.K.Kind in
     let key = c.args.self.now in
     c.new.ensures.codes
-    ∙ ap (over k c.stage-for-s6.result) (c.new-six.ensures.codes
-    ∙ ap (over k c.stage-for-s5.result) (c.new-five.ensures.codes
-    ∙ ap (over k c.stage-for-s4.result) (c.new-four.ensures.codes
-    ∙ ap (over k c.stage-for-s3.result) (c.new-three.ensures.codes
-    ∙ ap (over k c.stage-for-s2.result) (c.new-two.ensures.codes
-    ∙ ap (over k c.stage-for-s1.result) (c.new-one.ensures.codes
-    ∙ ap (over k c.stage-for-s0.result) c.requires.0))))))
-    ∙ cascade_built k (stages_for k.polar.count (plan_of key)) _ (few_for k.polar.count key) _ _ _ _ _ _ _ c.stage-for-s0.ensures c.stage-for-s1.ensures c.stage-for-s2.ensures c.stage-for-s3.ensures c.stage-for-s4.ensures c.stage-for-s5.ensures c.stage-for-s6.ensures
+    ∙ ap (over k c.stage_for-s6.result) (c.new-six.ensures.codes
+    ∙ ap (over k c.stage_for-s5.result) (c.new-five.ensures.codes
+    ∙ ap (over k c.stage_for-s4.result) (c.new-four.ensures.codes
+    ∙ ap (over k c.stage_for-s3.result) (c.new-three.ensures.codes
+    ∙ ap (over k c.stage_for-s2.result) (c.new-two.ensures.codes
+    ∙ ap (over k c.stage_for-s1.result) (c.new-one.ensures.codes
+    ∙ ap (over k c.stage_for-s0.result) c.requires.0))))))
+    ∙ cascade_built k (stages_for k.polar.count (plan_of key)) _ (few_for k.polar.count key) _ _ _ _ _ _ _ c.stage_for-s0.ensures c.stage_for-s1.ensures c.stage_for-s2.ensures c.stage_for-s3.ensures c.stage_for-s4.ensures c.stage_for-s5.ensures c.stage_for-s6.ensures
 
 pub returns : goal.returns
 returns g c =
