@@ -141,7 +141,7 @@ impl<P: Pair> Sounder<P> {
 
     // Takes the next sample of the record, by its two words.
     pub fn sample(&mut self, first: i64, second: i64) -> Result<(), Refusal>
-        ensures { Does Call.Sample.Kind P.Pair (Call.Sample first second) self.old self.new (done result) }
+        ensures { Does P.Sample.Kind P.Pair (Call.Sample first second) self.old self.new (done result) }
     {
         let x = self.admit(first, second)?;
         self.take(x);

@@ -11,7 +11,7 @@ loop-k-init g c =
 pub loop-k-preserved : goal.loop-k-preserved
 loop-k-preserved g c =
     let below : c.loop-k.k < g.P.Pair.span c.args.pair.now = omega (arith, c.span-k-end.ensures.value) in
-    line_grows c.args.kind g.Sample.Kind.encoding c.args.side (g.P.Pair.code c.args.pair.now c.args.side)
+    line_grows c.args.kind g.P.Sample.Kind.encoding c.args.side (g.P.Pair.code c.args.pair.now c.args.side)
     (string_bytes c.loop-k.line) (string_bytes c.push_entry.new.line) c.loop-k.k c.entry_at.result
     c.loop-k.invariant (c.entry_at.ensures below) c.in_ok-push_entry.ensures
 
@@ -19,5 +19,5 @@ pub returns : goal.returns
 returns g c =
     let ended : c.loop-k.k ≡ g.P.Pair.span c.args.pair.now = omega (arith, c.span-k-end.ensures.value) in
     subst
-    (λ (n : ℕ). string_bytes c.loop-k.line ≡ line_of c.args.kind g.Sample.Kind.encoding c.args.side (g.P.Pair.code c.args.pair.now c.args.side) n)
+    (λ (n : ℕ). string_bytes c.loop-k.line ≡ line_of c.args.kind g.P.Sample.Kind.encoding c.args.side (g.P.Pair.code c.args.pair.now c.args.side) n)
     ended c.loop-k.invariant

@@ -18,8 +18,8 @@ use Rattle.files.proofs.feeding.feed.Goals as goal
 abbrev none : ℤ × ℤ
 none = (pos 0, pos 0)
 
-pub overflow-mul-width : goal.overflow-mul-width
-overflow-mul-width g c =
+pub overflow_mul-width : goal.overflow_mul-width
+overflow_mul-width g c =
     let w = width c.args.kind in
     let m : w * c.loop-t.t ≤ w * c.args.count = mul-le-mul_left w (omega arith) in
     let e : c.width.result * c.loop-t.t ≡ w * c.loop-t.t = ap (λ n. n * c.loop-t.t) c.width.ensures in
@@ -27,7 +27,7 @@ overflow-mul-width g c =
 
 pub returns-in_err-at_byte : goal.returns-in_err-at_byte
 returns-in_err-at_byte g c =
-    let k = g.Sample.Kind in
+    let k = g.P.Sample.Kind in
     let was = state_of k g.P.Pair c.args.sounder.now in
     let f = sample_in c.args.kind c.args.bytes.now in
     let xs = samples_in c.args.kind c.args.bytes.now c.args.count in
@@ -43,7 +43,7 @@ returns-in_err-at_byte g c =
 
 pub loop-t-preserved : goal.loop-t-preserved
 loop-t-preserved g c =
-    let k = g.Sample.Kind in
+    let k = g.P.Sample.Kind in
     let was = state_of k g.P.Pair c.args.sounder.now in
     let is = state_of k g.P.Pair c.loop-t.sounder in
     let f = sample_in c.args.kind c.args.bytes.now in
@@ -63,7 +63,7 @@ loop-t-preserved g c =
 
 pub returns : goal.returns
 returns g c =
-    let k = g.Sample.Kind in
+    let k = g.P.Sample.Kind in
     let was = state_of k g.P.Pair c.args.sounder.now in
     let f = sample_in c.args.kind c.args.bytes.now in
     let xs = samples_in c.args.kind c.args.bytes.now c.args.count in

@@ -9,7 +9,7 @@ use Rattle.files.proofs.feeding.feed.Given as goal
 
 abbrev pub invariant-loop-t : goal.invariant-loop-t
 invariant-loop-t g l =
-    let k = g.Sample.Kind in
+    let k = g.P.Sample.Kind in
     let was = state_of k g.P.Pair l.initial.sounder in
     let xs = samples_in l.kind l.bytes l.count in
     (first_of (each (sample_test k was.codes l.kind l.from) l.t (drop l.t xs)) ≡ first_of (sample_tests k was.codes l.kind l.from xs))

@@ -12,7 +12,7 @@ use Rattle.files.proofs.reporting.report_over.Goals as goal
 
 pub returns-in_err-taps : goal.returns-in_err-taps
 returns-in_err-taps g c =
-    let k = g.Sample.Kind in
+    let k = g.P.Sample.Kind in
     let d = codes_of g.P.Pair c.args.pair in
     let kind = c.args.sounding.kind in
     let room = c.args.sounding.room in
@@ -27,7 +27,7 @@ returns-in_err-taps g c =
 
 pub returns : goal.returns
 returns g c =
-    let k = g.Sample.Kind in
+    let k = g.P.Sample.Kind in
     let d = codes_of g.P.Pair c.args.pair in
     let kind = c.args.sounding.kind in
     let room = c.args.sounding.room in

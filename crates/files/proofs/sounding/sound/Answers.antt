@@ -25,12 +25,12 @@ use Rattle.files.proofs.RecordTests.{samples_by, stops_at_open, samples_decide}
 use Rattle.files.proofs.sounding.sound.Given as given
 use Rattle.files.proofs.sounding.sound.Goals as goal
 
-laws : (g : given.Over) → KindLaws g.Sample.Kind
-laws g = let met = g.met.Sample.Kind in record { algebra = met.algebra; conjugation = met.conjugation; wordwise = met.wordwise; encodes = met.encodes; unity = met.unity; magnitudes = met.magnitudes }
+laws : (g : given.Over) → KindLaws g.P.Sample.Kind
+laws g = let met = g.met.P.Sample.Kind in record { algebra = met.algebra; conjugation = met.conjugation; wordwise = met.wordwise; encodes = met.encodes; unity = met.unity; magnitudes = met.magnitudes }
 
 pub returns-in_err-at_byte : goal.returns-in_err-at_byte
 returns-in_err-at_byte g c =
-    let k = g.Sample.Kind in
+    let k = g.P.Sample.Kind in
     let s = state_of k g.P.Pair c.new-sounder.result in
     let d = codes_of g.P.Pair c.args.pair in
     let p = err_from_is_err_and c.from_residual.result c.from_residual.ensures.1 in
@@ -45,14 +45,14 @@ record Opened (g : given.Over) (d : Codes g.P.Sample.Denot) (span room at : ℕ)
   most : room ≤ 256
   codes_are : v.codes ≡ d
   room_is : v.room ≡ room
-  count_is : span + room - 1 ≡ full g.Sample.Kind d room
-  begun : Begun g.Sample.Kind (span + room - 1) v
-  says_open : first_of (sounder_says at (answer_after g.Sample.Kind d new (Open room))) ≡ None
+  count_is : span + room - 1 ≡ full g.P.Sample.Kind d room
+  begun : Begun g.P.Sample.Kind (span + room - 1) v
+  says_open : first_of (sounder_says at (answer_after g.P.Sample.Kind d new (Open room))) ≡ None
 
 opened : (g : given.Over) (d : Codes g.P.Sample.Denot) (span room at : ℕ) (s v : State g.P.Sample.Denot) (r : Answer) → s.codes ≡ d → s.phase ≡ Idle → span ≡ d.span
-    → r ≡ says g.Sample.Kind (Open room) s → v ≡ next g.Sample.Kind (Open room) s → first_of (sounder_says at r) ≡ None → Opened g d span room at s v
+    → r ≡ says g.P.Sample.Kind (Open room) s → v ≡ next g.P.Sample.Kind (Open room) s → first_of (sounder_says at r) ≡ None → Opened g d span room at s v
 opened g d span room at s v r codes idle size said after none =
-    let k = g.Sample.Kind in
+    let k = g.P.Sample.Kind in
     let ok = ap accepted (sym said) ∙ none_refused at r none in
     let n : span + room - 1 ≡ full k d room = ap (λ m. m + room - 1) size in
     record {
@@ -67,7 +67,7 @@ opened g d span room at s v r codes idle size said after none =
 
 pub take_records-requires : goal.take_records-requires
 take_records-requires g c =
-    let k = g.Sample.Kind in
+    let k = g.P.Sample.Kind in
     let s = state_of k g.P.Pair c.new-sounder.result in
     let v = state_of k g.P.Pair c.open.new.self in
     let value = c.new-sounder.ensures.value in
@@ -76,7 +76,7 @@ take_records-requires g c =
 
 pub returns-in_err-take_records : goal.returns-in_err-take_records
 returns-in_err-take_records g c =
-    let k = g.Sample.Kind in
+    let k = g.P.Sample.Kind in
     let d = codes_of g.P.Pair c.args.pair in
     let room = c.args.sounding.room in
     let kind = c.args.sounding.kind in
@@ -94,7 +94,7 @@ returns-in_err-take_records g c =
 
 pub returns : goal.returns
 returns g c =
-    let k = g.Sample.Kind in
+    let k = g.P.Sample.Kind in
     let d = codes_of g.P.Pair c.args.pair in
     let room = c.args.sounding.room in
     let kind = c.args.sounding.kind in

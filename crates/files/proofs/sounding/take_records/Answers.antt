@@ -21,22 +21,22 @@ use Rattle.files.proofs.sounding.take_records.Goals as goal
 -- the tests on both records
 module _ (g : given.Over) (codes : Codes g.P.Sample.Denot) (kind : FileKind) (records : List ℕ) (n from : ℕ) where
   abbrev first_tests : List Test
-  first_tests = sample_tests g.Sample.Kind codes kind from (samples_in kind records n)
+  first_tests = sample_tests g.P.Sample.Kind codes kind from (samples_in kind records n)
 
   abbrev second_tests : List Test
-  second_tests = sample_tests g.Sample.Kind codes kind (from + width kind * n) (samples_in kind (drop (width kind * n) records) n)
+  second_tests = sample_tests g.P.Sample.Kind codes kind (from + width kind * n) (samples_in kind (drop (width kind * n) records) n)
 
   -- the second record as it is read: v is the width, and `rest` what stands behind the first
   rest_is : (v : ℕ) (rest : List ℕ) → v ≡ width kind → rest ≡ drop (v * n) records → rest ≡ drop (width kind * n) records
   rest_is v rest e r = r ∙ ap (λ w. drop (w * n) records) e
 
   second_same : (v : ℕ) (rest : List ℕ) (others : Codes g.P.Sample.Denot) → v ≡ width kind → rest ≡ drop (v * n) records → others ≡ codes
-      → first_of (sample_tests g.Sample.Kind others kind (from + v * n) (samples_in kind rest n)) ≡ first_of second_tests
-  second_same v rest others e r f = λ j. first_of (sample_tests g.Sample.Kind (f j) kind (from + e j * n) (samples_in kind (rest_is v rest e r j) n))
+      → first_of (sample_tests g.P.Sample.Kind others kind (from + v * n) (samples_in kind rest n)) ≡ first_of second_tests
+  second_same v rest others e r f = λ j. first_of (sample_tests g.P.Sample.Kind (f j) kind (from + e j * n) (samples_in kind (rest_is v rest e r j) n))
 
 pub returns-in_err-feed : goal.returns-in_err-feed
 returns-in_err-feed g c =
-    let codes = (state_of g.Sample.Kind g.P.Pair c.args.sounder.now).codes in
+    let codes = (state_of g.P.Sample.Kind g.P.Pair c.args.sounder.now).codes in
     let p = err_from_is_err_and c.from_residual.result c.from_residual.ensures.1 in
     let one = first_tests g codes c.args.kind c.args.records.now c.args.count c.args.from in
     let two = second_tests g codes c.args.kind c.args.records.now c.args.count c.args.from in
@@ -45,7 +45,7 @@ returns-in_err-feed g c =
 
 pub returns-in_err-at_byte : goal.returns-in_err-at_byte
 returns-in_err-at_byte g c =
-    let k = g.Sample.Kind in
+    let k = g.P.Sample.Kind in
     let s = state_of k g.P.Pair c.args.sounder.now in
     let t = state_of k g.P.Pair c.feed.new.sounder in
     let d : done c.turn.result ≡ Done = c.turn.ensures.value ∙ turns k c.args.count s t c.requires.0 c.in_ok-feed.ensures.taken in
@@ -53,7 +53,7 @@ returns-in_err-at_byte g c =
 
 pub feed-requires-2 : goal.feed-requires-2
 feed-requires-2 g c =
-    let k = g.Sample.Kind in
+    let k = g.P.Sample.Kind in
     let s = state_of k g.P.Pair c.args.sounder.now in
     let t = state_of k g.P.Pair c.feed.new.sounder in
     let w = width c.args.kind * c.args.count in
@@ -63,7 +63,7 @@ feed-requires-2 g c =
 
 pub returns-in_err-feed-2 : goal.returns-in_err-feed-2
 returns-in_err-feed-2 g c =
-    let k = g.Sample.Kind in
+    let k = g.P.Sample.Kind in
     let s = state_of k g.P.Pair c.args.sounder.now in
     let t = state_of k g.P.Pair c.feed.new.sounder in
     let p = err_from_is_err_and c.from_residual-in_err-feed-2.result c.from_residual-in_err-feed-2.ensures.1 in
@@ -76,7 +76,7 @@ returns-in_err-feed-2 g c =
 
 pub returns : goal.returns
 returns g c =
-    let k = g.Sample.Kind in
+    let k = g.P.Sample.Kind in
     let s = state_of k g.P.Pair c.args.sounder.now in
     let t = state_of k g.P.Pair c.feed.new.sounder in
     let v = state_of k g.P.Pair c.turn.new.self in

@@ -7,4 +7,4 @@ use Rattle.files.proofs.taps.gather.Goals as goal
 
 pub returns : goal.returns
 returns g c =
-    filled (λ i. words_in (says g.Sample.Kind (Tap i) (state_of g.Sample.Kind g.P.Pair c.args.sounder.now))) c.args.room c.loop-i.taps (pos 0, pos 0) (omega arith) (λ k h. c.loop-i.invariant.1 k (omega arith))
+    filled (λ i. words_in (says g.P.Sample.Kind (Tap i) (state_of g.P.Sample.Kind g.P.Pair c.args.sounder.now))) c.args.room c.loop-i.taps (pos 0, pos 0) (omega arith) (λ k h. c.loop-i.invariant.1 k (omega arith))

@@ -5,4 +5,4 @@ use Rattle.files.specs.Soundings.{words_in}
 use Rattle.files.proofs.taps.gather.Given as goal
 
 abbrev pub invariant-loop-i : goal.invariant-loop-i
-invariant-loop-i g l = (length l.taps ≡ 256) × ((j : ℕ) → j < l.i → get_or l.taps j (pos 0, pos 0) ≡ words_in (says g.Sample.Kind (Tap j) (state_of g.Sample.Kind g.P.Pair l.sounder)))
+invariant-loop-i g l = (length l.taps ≡ 256) × ((j : ℕ) → j < l.i → get_or l.taps j (pos 0, pos 0) ≡ words_in (says g.P.Sample.Kind (Tap j) (state_of g.P.Sample.Kind g.P.Pair l.sounder)))

@@ -4,4 +4,4 @@ use Rattle.keys.specs.Judged.{delays_of}
 use Rattle.keys.proofs.check.are_doublings.Given as goal
 
 abbrev pub invariant-loop-i : goal.invariant-loop-i
-invariant-loop-i l = (all_in (doublings l.wanted (length l.stages - l.-i)) (delays_of l.stages) ≡ is_set l.least (delays_of l.stages)) × (l.wanted < 512)
+invariant-loop-i l = (all_in (doublings l.wanted (length l.stages - l._i)) (delays_of l.stages) ≡ is_set l.least (delays_of l.stages)) × (l.wanted < 512)

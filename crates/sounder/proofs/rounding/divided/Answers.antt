@@ -3,14 +3,14 @@ use Rattle.std.proofs.lemmas.Int.{ints}
 use Rattle.sounder.proofs.Division.{found, found_most, found_below, rounded_below, rounded_above, down_fits, down_is, up_fits, up_is}
 use Rattle.sounder.proofs.rounding.divided.Goals as goal
 
-pub overflow-cast-result : goal.overflow-cast-result
-overflow-cast-result c =
+pub overflow_cast-result : goal.overflow_cast-result
+overflow_cast-result c =
     let z = c.args.z in
     let q = c.nearest_magnitude-q.result in
     down_fits q (found_most z c.args.e q c.requires c.ranges.z (found z c.args.e q c.ranges.z c.nearest_magnitude-q.ensures))
 
-pub overflow-cast-result-else-z-lt0 : goal.overflow-cast-result-else-z-lt0
-overflow-cast-result-else-z-lt0 c =
+pub overflow_cast-result-else-z-lt0 : goal.overflow_cast-result-else-z-lt0
+overflow_cast-result-else-z-lt0 c =
     let z = c.args.z in
     let q = c.nearest_magnitude-q.result in
     up_fits q (found_below z c.args.e q c.requires c.ranges.z (omega (arith, ints)) (found z c.args.e q c.ranges.z c.nearest_magnitude-q.ensures))

@@ -13,16 +13,16 @@ use Rattle.sounder.proofs.Replaying.{Going, answered_at, calls_set, again, answe
 use Rattle.sounder.proofs.running.replay.Given as given
 use Rattle.sounder.proofs.running.replay.Goals as goal
 
-laws : (g : given.Over) → KindLaws g.Sample.Kind
-laws g = let met = g.met.Sample.Kind in record { algebra = met.algebra; conjugation = met.conjugation; wordwise = met.wordwise; encodes = met.encodes; unity = met.unity; magnitudes = met.magnitudes }
+laws : (g : given.Over) → KindLaws g.P.Sample.Kind
+laws g = let met = g.met.P.Sample.Kind in record { algebra = met.algebra; conjugation = met.conjugation; wordwise = met.wordwise; encodes = met.encodes; unity = met.unity; magnitudes = met.magnitudes }
 
 -- the laws of the pair that the new sounder holds: it is the pair given
-held_laws : (g : given.Over) (codes : Codes g.row.P-Sample.Denot) (d : Codes g.row.P-Sample.Denot) (p q : Pending g.row.P-Sample.Denot) → codes ≡ d → p ≡ q → PairLaws g.Sample.Kind.ring g.Sample.Kind.polar d q → PairLaws g.Sample.Kind.ring g.Sample.Kind.polar codes p
-held_laws g codes d p q e f P = subst₂ (PairLaws g.Sample.Kind.ring g.Sample.Kind.polar) (sym e) (sym f) P
+held_laws : (g : given.Over) (codes : Codes g.row.P-Sample.Denot) (d : Codes g.row.P-Sample.Denot) (p q : Pending g.row.P-Sample.Denot) → codes ≡ d → p ≡ q → PairLaws g.P.Sample.Kind.ring g.P.Sample.Kind.polar d q → PairLaws g.P.Sample.Kind.ring g.P.Sample.Kind.polar codes p
+held_laws g codes d p q e f P = subst₂ (PairLaws g.P.Sample.Kind.ring g.P.Sample.Kind.polar) (sym e) (sym f) P
 
 pub loop-event-init : goal.loop-event-init
 loop-event-init g c =
-    let k = g.Sample.Kind in
+    let k = g.P.Sample.Kind in
     let S = g.row.P-Sample.Denot in
     let K = laws g in
     let first = c.new-sounder.result.pair in
@@ -33,7 +33,7 @@ loop-event-init g c =
 
 pub loop-event-preserved : goal.loop-event-preserved
 loop-event-preserved g c =
-    let k = g.Sample.Kind in
+    let k = g.P.Sample.Kind in
     let S = g.row.P-Sample.Denot in
     let first = c.new-sounder.result.pair in
     let value = c.new-sounder.ensures.value in
@@ -53,7 +53,7 @@ loop-event-preserved g c =
 
 pub returns : goal.returns
 returns g c =
-    let k = g.Sample.Kind in
+    let k = g.P.Sample.Kind in
     let S = g.row.P-Sample.Denot in
     let first = c.new-sounder.result.pair in
     let value = c.new-sounder.ensures.value in

@@ -17,12 +17,12 @@ loop-i-preserved c =
     let lt : i < length c.loop-i.held = omega (arith, c.loop-i.invariant.0) in
     (length-set _ _ _ ∙ c.loop-i.invariant.0, take_more_set c.loop-i.held i _ lt ∙ ap (λ l. l ++ get_or xs i at_rest ∷ []) c.loop-i.invariant.1 ∙ sym (take_more xs i at_rest c.loop-i-test.true))
 
-pub invariant-of-result : goal.invariant-of-result
-invariant-of-result c =
+pub invariant_of-result : goal.invariant_of-result
+invariant_of-result c =
     let xs = c.args.stages.now in
     let all : take (length xs) c.loop-i.held ≡ xs = whole _ _ _ c.loop-i-test.false c.loop-i.auto.i-end c.loop-i.invariant.1 in
     let few : length xs ≤ 7 = few_stages c.args.roots c.args.kernel xs (ap is_ok c.requires) in
-    (omega (arith, c.loop-i.invariant.0), (ap (λ l. is_ok (judged c.args.roots c.args.kernel l)) all ∙ ap is_ok c.requires, tt))
+    record { held = omega (arith, c.loop-i.invariant.0); sound = ap (λ l. is_ok (judged c.args.roots c.args.kernel l)) all ∙ ap is_ok c.requires }
 
 pub returns : goal.returns
 returns c = ap (plan c.args.kernel c.args.roots) (whole _ _ _ c.loop-i-test.false c.loop-i.auto.i-end c.loop-i.invariant.1)

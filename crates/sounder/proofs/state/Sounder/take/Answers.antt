@@ -5,7 +5,7 @@ use Rattle.sounder.proofs.state.Sounder.take.Goals as goal
 
 pub returns : goal.returns
 returns g c =
-    let k = g.Sample.Kind in
+    let k = g.P.Sample.Kind in
     let s = c.args.self.now in
     let S = g.row.P-Sample.Denot in
     let old : ℕ → S = λ i. sample_of k.ring k.encoding (words s.sums i) in
