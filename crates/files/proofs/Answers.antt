@@ -9,7 +9,7 @@ use Rattle.calls.specs.declared.call.Call.TheVariants.{Tap}
 use Rattle.calls.specs.Runs.{answer_after}
 use Rattle.layout.specs.declared.kind.FileKind.{FileKind}
 use Rattle.layout.specs.declared.refusal.FileRefusal.{FileRefusal}
-use Rattle.layout.specs.Tests.{first_of, unless}
+use Rattle.layout.specs.Tests.{first_refusal, unless}
 use Rattle.reports.specs.Reports.{report_length, buffer_after, tap_tests, report_tests}
 use Rattle.files.specs.Soundings.{words_in, sounded, taps}
 
@@ -30,7 +30,7 @@ taps_count k c kind room records = length-map-range_with_len (λ i. words_in (an
 
 -- of a room length that is allowed and a buffer that is long enough, the taps alone decide
 pub taps_decide : (kind : FileKind) (ts : List (ℤ × ℤ)) (room size space : ℕ) → length ts ≡ room → 1 ≤ room → room ≤ 256 → report_length kind room ≤ space
-    → first_of (report_tests kind ts size space) ≡ first_of (tap_tests size ts)
+    → first_refusal (report_tests kind ts size space) ≡ first_refusal (tap_tests size ts)
 taps_decide kind ts room size space e least most placed =
     cond-false _ _ _ (ap not (and_from (leb 1 (length ts)) (leb (length ts) 256) (le-leb 1 (length ts) (omega arith)) (le-leb (length ts) 256 (omega arith))))
     ∙ cond-false _ _ _ (le-ltb space (report_length kind (length ts)) (subst (λ n. report_length kind n ≤ space) (sym e) placed))

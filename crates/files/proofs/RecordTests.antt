@@ -10,7 +10,7 @@ use Rattle.layout.specs.declared.kind.FileKind.{FileKind}
 use Rattle.layout.specs.declared.refusal.FileRefusal.{FileRefusal}
 use Rattle.layout.specs.declared.refusal.FileRefusal.TheVariants.{Length, Buffer}
 use Rattle.layout.specs.Kinds.{width}
-use Rattle.layout.specs.Tests.{Test, first_of}
+use Rattle.layout.specs.Tests.{Test, first_refusal}
 use Rattle.layout.proofs.Orders.{passed, stopped}
 use Rattle.reports.specs.Reports.{report_length}
 use Rattle.files.specs.Samples.{samples_in}
@@ -31,14 +31,14 @@ module _ {S : Type 0} (k : KindModel S) (c : Codes S) (kind : FileKind) (room : 
       ∷ (ltb space (report_length kind room), Buffer size)
       ∷ samples_by c (full k c room)
 
-  pub stops_at_open : (e : FileRefusal) → first_of open_group ≡ Some e → first_of (record_tests k c kind room records at size space) ≡ Some e
+  pub stops_at_open : (e : FileRefusal) → first_refusal open_group ≡ Some e → first_refusal (record_tests k c kind room records at size space) ≡ Some e
   stops_at_open e h = stopped open_group rest_group e h
 
   -- where all before them is passed, the samples decide
-  pub samples_decide : first_of open_group ≡ None → (n : ℕ) → n ≡ full k c room → (d : Codes S) → d ≡ c → length records ≡ 2 * (width kind * n) → report_length kind room ≤ space
-      → first_of (record_tests k c kind room records at size space) ≡ first_of (samples_by d n)
+  pub samples_decide : first_refusal open_group ≡ None → (n : ℕ) → n ≡ full k c room → (d : Codes S) → d ≡ c → length records ≡ 2 * (width kind * n) → report_length kind room ≤ space
+      → first_refusal (record_tests k c kind room records at size space) ≡ first_refusal (samples_by d n)
   samples_decide o n e d f l p =
       passed open_group rest_group o
       ∙ cond-false _ _ _ (ap not (eq-eqb (length records) (2 * record_size k c kind room records) (l ∙ ap (λ m. 2 * (width kind * m)) e)))
       ∙ cond-false _ _ _ (le-ltb space (report_length kind room) p)
-      ∙ sym (λ j. first_of (samples_by (f j) (e j)))
+      ∙ sym (λ j. first_refusal (samples_by (f j) (e j)))

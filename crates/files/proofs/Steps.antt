@@ -18,20 +18,20 @@ use Rattle.sounder.specs.States.{State, says, next, moved, took_if}
 use Rattle.layout.specs.declared.refusal.FileRefusal.{FileRefusal}
 use Rattle.layout.specs.declared.kind.FileKind.{FileKind}
 use Rattle.layout.specs.Kinds.{width}
-use Rattle.layout.specs.Tests.{first_of}
+use Rattle.layout.specs.Tests.{first_refusal}
 use Rattle.files.specs.Order.{sounder_says, sample_test}
 use Rattle.files.specs.Soundings.{sample_calls, record_calls}
 use Rattle.files.specs.States.{led, Ready, Begun, Took}
 
 -- an answer that refuses nothing is accepted
-pub none_refused : (byte : ℕ) (r : Answer) → first_of (sounder_says byte r) ≡ None → accepted r ≡ true
+pub none_refused : (byte : ℕ) (r : Answer) → first_refusal (sounder_says byte r) ≡ None → accepted r ≡ true
 none_refused byte Done h = refl
 none_refused byte (Words a b) h = refl
 none_refused byte (Refused e) h = let z : ◌≡◌ {A = ℕ} 0 1 = cc in absurd (omega arith)
 
 -- an accepted answer refuses nothing
-pub not_refused : (byte : ℕ) (r : Answer) (e : FileRefusal) → r ≡ Done → first_of (sounder_says byte r) ≡ Some e → ⊥
-not_refused byte r e d h = let n : None ≡ Some e = sym (ap (λ q. first_of (sounder_says byte q)) d) ∙ h in let z : ◌≡◌ {A = ℕ} 0 1 = cc in omega arith
+pub not_refused : (byte : ℕ) (r : Answer) (e : FileRefusal) → r ≡ Done → first_refusal (sounder_says byte r) ≡ Some e → ⊥
+not_refused byte r e d h = let n : None ≡ Some e = sym (ap (λ q. first_refusal (sounder_says byte q)) d) ∙ h in let z : ◌≡◌ {A = ℕ} 0 1 = cc in omega arith
 
 -- a fact that holds anyhow
 pub made_any : {X Y P : Type 0} (r : Result X Y) → P → IfOk r (λ _. P)
@@ -79,11 +79,11 @@ module _ {S : Type 0} (k : KindModel S) where
     took_next l a b h = subst (Took (i + 1) s) (sym (next_is (Sample a b) t h)) (taken (k.encoding.sample a b) (ap accepted (sym (sample_says l a b)) ∙ h))
 
     -- the answer to a sample, as the test on it
-    pub test_is : (kind : FileKind) (from byte : ℕ) (x : ℤ × ℤ) (r : Answer) (a b : ℤ) → i < n → x ≡ (a, b) → byte ≡ from + width kind * i → r ≡ says k (Sample a b) t → first_of (sounder_says byte r) ≡ first_of (sample_test k s.codes kind from i x)
+    pub test_is : (kind : FileKind) (from byte : ℕ) (x : ℤ × ℤ) (r : Answer) (a b : ℤ) → i < n → x ≡ (a, b) → byte ≡ from + width kind * i → r ≡ says k (Sample a b) t → first_refusal (sounder_says byte r) ≡ first_refusal (sample_test k s.codes kind from i x)
     test_is kind from byte x r a b l is e h =
-        ap (λ (y : ℕ). first_of (sounder_says y r)) e
-        ∙ ap (λ (y : Answer). first_of (sounder_says (from + width kind * i) y)) (h ∙ sample_says l a b)
-        ∙ ap (λ (y : ℤ × ℤ). first_of (sample_test k s.codes kind from i y)) (sym is)
+        ap (λ (y : ℕ). first_refusal (sounder_says y r)) e
+        ∙ ap (λ (y : Answer). first_refusal (sounder_says (from + width kind * i) y)) (h ∙ sample_says l a b)
+        ∙ ap (λ (y : ℤ × ℤ). first_refusal (sample_test k s.codes kind from i y)) (sym is)
 
   -- the end of a record: turn after the first, close after the second
   turn_says : (t : State S) → t.phase ≡ FirstRecord → t.count ≡ full k t.codes t.room → says k Turn t ≡ Done

@@ -12,7 +12,7 @@ use Rattle.layout.specs.declared.kind.FileKind.TheVariants.{Hall, Radio}
 use Rattle.layout.specs.declared.refusal.FileRefusal.{FileRefusal}
 use Rattle.layout.specs.declared.refusal.FileRefusal.TheVariants.{Length}
 use Rattle.layout.specs.declared.sounding.Sounding.{Sounding}
-use Rattle.layout.specs.Tests.{Test, first_of, unless}
+use Rattle.layout.specs.Tests.{Test, first_refusal, unless}
 use Rattle.layout.specs.Fields.{kind_of, plan_in, room_byte_of, room_of, records_of}
 use Rattle.layout.specs.Order.{layout_tests}
 use Rattle.reports.specs.Reports.{report_bytes, buffer_after}
@@ -69,8 +69,8 @@ ReportLaws file = LawsFor (plan_in file) (room_of file) (records_of file) (kind_
 -- an answer r that these tests decide, with this report and these laws of it: the buffer was d and is then e
 pub record Reports (tests : List Test) (report : List ℕ) (Laws : Type 0) (r : Result ℕ FileRefusal) (d e : List ℕ) : Type 0 where
   -- the first refusal that comes, or else the length of the report, which is within the buffer
-  pub value : r ≡ unless (first_of tests) (length report)
+  pub value : r ≡ unless (first_refusal tests) (length report)
   pub within : IfOk r (λ n. n ≤ length d)
   -- the buffer begins with the report and its rest is kept, or a refusal leaves it as it was
-  pub after : e ≡ buffer_after (first_of tests) report d
+  pub after : e ≡ buffer_after (first_refusal tests) report d
   pub laws : IfOk r (λ _. Laws)

@@ -3,7 +3,7 @@ ghost use Rattle.std.specs.Prelude.{◌≡◌, ◌+◌, ◌*◌, ◌^◌, ◌<�
 ghost use Rattle.calls.specs.Answers.{done};
 ghost use Rattle.sounder.specs.States.{state_of, Does};
 ghost use Rattle.layout.specs.Kinds.{width};
-ghost use Rattle.layout.specs.Tests.{first_of, unless};
+ghost use Rattle.layout.specs.Tests.{first_refusal, unless};
 ghost use Rattle.files.specs.Samples.{samples_in};
 ghost use Rattle.files.specs.Soundings.{sample_calls};
 ghost use Rattle.files.specs.Order.{sounder_says, sample_tests};
@@ -17,7 +17,7 @@ use sounder::Sounder;
 
 // What a sounder answers to a call that comes from the field at this byte, as the file's answer.
 pub(crate) fn at_byte(answer: Result<(), Refusal>, byte: usize) -> Result<(), FileRefusal>
-    ensures { result ≡ unless (first_of (sounder_says byte (done answer))) tt }
+    ensures { result ≡ unless (first_refusal (sounder_says byte (done answer))) tt }
 {
     match answer {
         Ok(()) => Ok(()),
@@ -41,7 +41,7 @@ pub(crate) fn feed<P: Pair>(
     from: usize,
 ) -> Result<(), FileRefusal>
     requires { (Ready P.Sample.Kind count (state_of P.Sample.Kind P.Pair sounder.old)) × ((width kind * count ≤ length bytes.now) × (from + width kind * count < 2 ^ 64)) }
-    ensures value { result ≡ unless (first_of (sample_tests P.Sample.Kind (state_of P.Sample.Kind P.Pair sounder.old).codes kind from (samples_in kind bytes.now count))) tt }
+    ensures value { result ≡ unless (first_refusal (sample_tests P.Sample.Kind (state_of P.Sample.Kind P.Pair sounder.old).codes kind from (samples_in kind bytes.now count))) tt }
     ensures state { OnOk result (state_of P.Sample.Kind P.Pair sounder.new ≡ led P.Sample.Kind (sample_calls (samples_in kind bytes.now count)) (state_of P.Sample.Kind P.Pair sounder.old)) }
     ensures taken { OnOk result (Took count (state_of P.Sample.Kind P.Pair sounder.old) (state_of P.Sample.Kind P.Pair sounder.new)) }
 {

@@ -3,7 +3,7 @@ ghost use Rattle.std.specs.Prelude.{◌≡◌, ◌+◌, ◌≤◌, length, IfOk,
 ghost use Rattle.keys.specs.Plans.{plan_of};
 ghost use Rattle.pairs.specs.Pairs.{codes_of};
 ghost use Rattle.files.specs.KeyCodes.{key_codes};
-ghost use Rattle.layout.specs.Tests.{first_of, unless, Ordered};
+ghost use Rattle.layout.specs.Tests.{first_refusal, unless, Ordered};
 ghost use Rattle.reports.specs.Reports.{buffer_after};
 ghost use Rattle.files.specs.Files.{tests_over, report_over, LawsOver, tests_for, report_for, LawsFor, file_tests, input_tests, report_of, ReportLaws, Reports};
 
@@ -64,8 +64,8 @@ fn report_by_kind(
 // or answers the first refusal that comes, and leaves `out` as it is.
 pub fn report(file: &[u8], out: &mut [u8]) -> Result<usize, FileRefusal>
     ensures order { Ordered (file_tests file.now (length out.old)) result }
-    ensures value { result ≡ unless (first_of (file_tests file.now (length out.old))) (length (report_of file.now)) }
-    ensures after { out.new ≡ buffer_after (first_of (file_tests file.now (length out.old))) (report_of file.now) out.old }
+    ensures value { result ≡ unless (first_refusal (file_tests file.now (length out.old))) (length (report_of file.now)) }
+    ensures after { out.new ≡ buffer_after (first_refusal (file_tests file.now (length out.old))) (report_of file.now) out.old }
     ensures within { IfOk result (λ n. n ≤ length out.old) }
     ensures laws { OnOk result (ReportLaws file.now) }
 {
@@ -84,8 +84,8 @@ fn is_too_long(input: &[u8]) -> bool
 // The same for what a program reads: an input above 8,192 bytes is refused first of all.
 pub fn report_input(input: &[u8], out: &mut [u8]) -> Result<usize, FileRefusal>
     ensures order { Ordered (input_tests input.now (length out.old)) result }
-    ensures value { result ≡ unless (first_of (input_tests input.now (length out.old))) (length (report_of input.now)) }
-    ensures after { out.new ≡ buffer_after (first_of (input_tests input.now (length out.old))) (report_of input.now) out.old }
+    ensures value { result ≡ unless (first_refusal (input_tests input.now (length out.old))) (length (report_of input.now)) }
+    ensures after { out.new ≡ buffer_after (first_refusal (input_tests input.now (length out.old))) (report_of input.now) out.old }
     ensures within { IfOk result (λ n. n ≤ length out.old) }
     ensures laws { OnOk result (ReportLaws input.now) }
 {

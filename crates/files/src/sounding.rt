@@ -3,7 +3,7 @@ ghost use Rattle.std.specs.Prelude.{◌≡◌, ◌+◌, ◌*◌, ◌^◌, ◌<�
 ghost use Rattle.pairs.specs.Pairs.{codes_of};
 ghost use Rattle.sounder.specs.States.{state_of};
 ghost use Rattle.layout.specs.Kinds.{width};
-ghost use Rattle.layout.specs.Tests.{first_of, unless, Decided};
+ghost use Rattle.layout.specs.Tests.{first_refusal, unless, Decided};
 ghost use Rattle.files.specs.Samples.{samples_in};
 ghost use Rattle.files.specs.Soundings.{record_calls};
 ghost use Rattle.files.specs.Order.{sample_tests, record_tests};
@@ -34,7 +34,7 @@ fn take_records<P: Pair>(
     from: usize,
 ) -> Result<(), FileRefusal>
     requires { (Begun P.Sample.Kind count (state_of P.Sample.Kind P.Pair sounder.old)) × ((length records.now ≡ 2 * (width kind * count)) × (from + length records.now < 2 ^ 64)) }
-    ensures value { result ≡ unless (first_of (sample_tests P.Sample.Kind (state_of P.Sample.Kind P.Pair sounder.old).codes kind from (samples_in kind records.now count) ++ sample_tests P.Sample.Kind (state_of P.Sample.Kind P.Pair sounder.old).codes kind (from + width kind * count) (samples_in kind (drop (width kind * count) records.now) count))) tt }
+    ensures value { result ≡ unless (first_refusal (sample_tests P.Sample.Kind (state_of P.Sample.Kind P.Pair sounder.old).codes kind from (samples_in kind records.now count) ++ sample_tests P.Sample.Kind (state_of P.Sample.Kind P.Pair sounder.old).codes kind (from + width kind * count) (samples_in kind (drop (width kind * count) records.now) count))) tt }
     ensures state { OnOk result (state_of P.Sample.Kind P.Pair sounder.new ≡ led P.Sample.Kind (record_calls (samples_in kind records.now count) (samples_in kind (drop (width kind * count) records.now) count)) (state_of P.Sample.Kind P.Pair sounder.old)) }
     ensures ended { OnOk result (((state_of P.Sample.Kind P.Pair sounder.new).phase ≡ Phase.Complete) × ((state_of P.Sample.Kind P.Pair sounder.new).room ≡ (state_of P.Sample.Kind P.Pair sounder.old).room)) }
 {

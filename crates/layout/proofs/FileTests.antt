@@ -7,7 +7,7 @@ use Rattle.keys.specs.declared.stage.KeyStage.{KeyStage}
 use Rattle.layout.specs.declared.refusal.FileRefusal.{FileRefusal}
 use Rattle.layout.specs.declared.head.Head.{Head}
 use Rattle.layout.specs.Kinds.{roots}
-use Rattle.layout.specs.Tests.{Test, first_of}
+use Rattle.layout.specs.Tests.{Test, first_refusal}
 use Rattle.layout.specs.Fields.{byte_at, two_bytes, kind_of, kernel_of, count_of, stages_in, stages_of, plan_in, room_of, record_byte, records_of}
 use Rattle.layout.specs.Order.{head_tests, key_says, field_tests, layout_tests}
 use Rattle.layout.specs.Read.{HeadRead}
@@ -26,14 +26,14 @@ field_group file = field_tests (length file) (count_of file)
 abbrev key_group : List ℕ → List Test
 key_group file = key_says (judged (roots (kind_of file)) (kernel_of file) (stages_of file))
 
-module _ (file : List ℕ) (a : first_of (head_tests file) ≡ None) (h : Head) (H : HeadRead file h) where
-  past_head : first_of (layout_tests file) ≡ first_of (count_group file ++ (field_group file ++ key_group file))
+module _ (file : List ℕ) (a : first_refusal (head_tests file) ≡ None) (h : Head) (H : HeadRead file h) where
+  past_head : first_refusal (layout_tests file) ≡ first_refusal (count_group file ++ (field_group file ++ key_group file))
   past_head = passed (head_tests file) (count_group file ++ (field_group file ++ key_group file)) a
 
-  count_same : first_of (key_says (count_judged h.kernel h.count)) ≡ first_of (count_group file)
-  count_same = ap₂ (λ k n. first_of (key_says (count_judged k n))) H.kernel_is H.count_is
+  count_same : first_refusal (key_says (count_judged h.kernel h.count)) ≡ first_refusal (count_group file)
+  count_same = ap₂ (λ k n. first_refusal (key_says (count_judged k n))) H.kernel_is H.count_is
 
-  pub stops_at_count : (e : FileRefusal) → first_of (key_says (count_judged h.kernel h.count)) ≡ Some e → first_of (layout_tests file) ≡ Some e
+  pub stops_at_count : (e : FileRefusal) → first_refusal (key_says (count_judged h.kernel h.count)) ≡ Some e → first_refusal (layout_tests file) ≡ Some e
   stops_at_count e b = past_head ∙ stopped (count_group file) (field_group file ++ key_group file) e (sym count_same ∙ b)
 
   stages_same : stages_in h.rest.now h.count ≡ stages_of file
@@ -52,23 +52,23 @@ module _ (file : List ℕ) (a : first_of (head_tests file) ≡ None) (h : Head) 
       let r = ap length e ∙ length-drop (2 * h.count + 2) h.rest.now in
       omega arith
 
-  module _ (b : first_of (key_says (count_judged h.kernel h.count)) ≡ None) where
-    fields_same : first_of (field_tests (6 + length h.rest.now) h.count) ≡ first_of (field_group file)
-    fields_same = ap₂ (λ s n. first_of (field_tests s n)) H.size_is H.count_is
+  module _ (b : first_refusal (key_says (count_judged h.kernel h.count)) ≡ None) where
+    fields_same : first_refusal (field_tests (6 + length h.rest.now) h.count) ≡ first_refusal (field_group file)
+    fields_same = ap₂ (λ s n. first_refusal (field_tests s n)) H.size_is H.count_is
 
-    past_count : first_of (layout_tests file) ≡ first_of (field_group file ++ key_group file)
+    past_count : first_refusal (layout_tests file) ≡ first_refusal (field_group file ++ key_group file)
     past_count = past_head ∙ passed (count_group file) (field_group file ++ key_group file) (sym count_same ∙ b)
 
-    pub stops_at_fields : (e : FileRefusal) → first_of (field_tests (6 + length h.rest.now) h.count) ≡ Some e → first_of (layout_tests file) ≡ Some e
+    pub stops_at_fields : (e : FileRefusal) → first_refusal (field_tests (6 + length h.rest.now) h.count) ≡ Some e → first_refusal (layout_tests file) ≡ Some e
     stops_at_fields e f = past_count ∙ stopped (field_group file) (key_group file) e (sym fields_same ∙ f)
 
-    module _ (f : first_of (field_tests (6 + length h.rest.now) h.count) ≡ None) (part : List KeyStage) (s : part ≡ stages_in h.rest.now h.count) where
+    module _ (f : first_refusal (field_tests (6 + length h.rest.now) h.count) ≡ None) (part : List KeyStage) (s : part ≡ stages_in h.rest.now h.count) where
       -- what the key says is the last of these tests
-      pub key_decides : first_of (layout_tests file) ≡ first_of (key_says (judged (roots h.kind) h.kernel part))
+      pub key_decides : first_refusal (layout_tests file) ≡ first_refusal (key_says (judged (roots h.kind) h.kernel part))
       key_decides =
           past_count
           ∙ passed (field_group file) (key_group file) (sym fields_same ∙ f)
-          ∙ sym (ap₂ (λ k n. first_of (key_says (judged (roots k) n part))) H.kind_is H.kernel_is ∙ ap (λ ss. first_of (key_says (judged (roots (kind_of file)) (kernel_of file) ss))) (s ∙ stages_same))
+          ∙ sym (ap₂ (λ k n. first_refusal (key_says (judged (roots k) n part))) H.kind_is H.kernel_is ∙ ap (λ ss. first_refusal (key_says (judged (roots (kind_of file)) (kernel_of file) ss))) (s ∙ stages_same))
 
       pub plan_same : plan h.kernel (roots h.kind) part ≡ plan_in file
       plan_same = ap₂ (λ k n. plan n (roots k) part) H.kind_is H.kernel_is ∙ ap (plan (kernel_of file) (roots (kind_of file))) (s ∙ stages_same)

@@ -3,23 +3,23 @@ use Rattle.std.proofs.Common.{◌≡◌, ℕ, ◌+◌, ◌<◌, ◌≤◌, Bool,
 use Rattle.std.proofs.lemmas.List.{at_drop_more, at_drop_all}
 use Rattle.std.specs.Option.{option_or}
 use Rattle.layout.specs.declared.refusal.FileRefusal.{FileRefusal}
-use Rattle.layout.specs.Tests.{Test, each, first_of, unless}
+use Rattle.layout.specs.Tests.{Test, each, first_refusal, unless}
 
 either : (b : Bool) (e : FileRefusal) (o p : Option FileRefusal) → cond b (Some e) (option_or o p) ≡ option_or (cond b (Some e) o) p
 either true e o p = refl
 either false e o p = refl
 
-first_append : (xs ys : List Test) → first_of (xs ++ ys) ≡ option_or (first_of xs) (first_of ys)
+first_append : (xs ys : List Test) → first_refusal (xs ++ ys) ≡ option_or (first_refusal xs) (first_refusal ys)
 first_append [] ys = refl
-first_append (t ∷ xs) ys = ap (cond t.0 (Some t.1)) (first_append xs ys) ∙ either t.0 t.1 (first_of xs) (first_of ys)
+first_append (t ∷ xs) ys = ap (cond t.0 (Some t.1)) (first_append xs ys) ∙ either t.0 t.1 (first_refusal xs) (first_refusal ys)
 
 -- where the first tests are passed, the others decide
-pub passed : (xs ys : List Test) → first_of xs ≡ None → first_of (xs ++ ys) ≡ first_of ys
-passed xs ys h = first_append xs ys ∙ ap (λ o. option_or o (first_of ys)) h
+pub passed : (xs ys : List Test) → first_refusal xs ≡ None → first_refusal (xs ++ ys) ≡ first_refusal ys
+passed xs ys h = first_append xs ys ∙ ap (λ o. option_or o (first_refusal ys)) h
 
 -- where one of them refuses, the others are not asked
-pub stopped : (xs ys : List Test) (e : FileRefusal) → first_of xs ≡ Some e → first_of (xs ++ ys) ≡ Some e
-stopped xs ys e h = first_append xs ys ∙ ap (λ o. option_or o (first_of ys)) h
+pub stopped : (xs ys : List Test) (e : FileRefusal) → first_refusal xs ≡ Some e → first_refusal (xs ++ ys) ≡ Some e
+stopped xs ys e h = first_append xs ys ∙ ap (λ o. option_or o (first_refusal ys)) h
 
 -- an answer says what the tests come to
 pub answers_none : {X : Type 0} (o : Option FileRefusal) (x y : X) → Ok y ≡ unless o x → o ≡ None
@@ -32,11 +32,11 @@ answers_some (Some y) x e h = cc
 
 -- a loop that tests each element of a list
 module _ {X : Type 0} (f : ℕ → X → List Test) (xs : List X) (i : ℕ) (d : X) where
-  pub each_here : (e : FileRefusal) → i < length xs → first_of (f i (get_or xs i d)) ≡ Some e → first_of (each f i (drop i xs)) ≡ Some e
-  each_here e h t = at_drop_more (λ l. first_of (each f i l)) xs i d h ∙ stopped (f i (get_or xs i d)) _ e t
+  pub each_here : (e : FileRefusal) → i < length xs → first_refusal (f i (get_or xs i d)) ≡ Some e → first_refusal (each f i (drop i xs)) ≡ Some e
+  each_here e h t = at_drop_more (λ l. first_refusal (each f i l)) xs i d h ∙ stopped (f i (get_or xs i d)) _ e t
 
-  pub each_later : i < length xs → first_of (f i (get_or xs i d)) ≡ None → first_of (each f i (drop i xs)) ≡ first_of (each f (i + 1) (drop (i + 1) xs))
-  each_later h t = at_drop_more (λ l. first_of (each f i l)) xs i d h ∙ passed (f i (get_or xs i d)) _ t
+  pub each_later : i < length xs → first_refusal (f i (get_or xs i d)) ≡ None → first_refusal (each f i (drop i xs)) ≡ first_refusal (each f (i + 1) (drop (i + 1) xs))
+  each_later h t = at_drop_more (λ l. first_refusal (each f i l)) xs i d h ∙ passed (f i (get_or xs i d)) _ t
 
-pub each_all : {X : Type 0} (f : ℕ → X → List Test) (xs : List X) (i : ℕ) → length xs ≤ i → first_of (each f i (drop i xs)) ≡ None
-each_all f xs i h = at_drop_all (λ l. first_of (each f i l)) xs i h
+pub each_all : {X : Type 0} (f : ℕ → X → List Test) (xs : List X) (i : ℕ) → length xs ≤ i → first_refusal (each f i (drop i xs)) ≡ None
+each_all f xs i h = at_drop_all (λ l. first_refusal (each f i l)) xs i h

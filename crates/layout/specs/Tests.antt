@@ -13,9 +13,9 @@ each f i [] = []
 each f i (x ∷ xs) = f i x ++ each f (i + 1) xs
 
 -- the first refusal whose condition holds
-abbrev pub first_of : List Test → Option FileRefusal
-first_of [] = None
-first_of (t ∷ ts) = cond t.0 (Some t.1) (first_of ts)
+abbrev pub first_refusal : List Test → Option FileRefusal
+first_refusal [] = None
+first_refusal (t ∷ ts) = cond t.0 (Some t.1) (first_refusal ts)
 
 -- the refusal, or else the value
 abbrev pub unless : {X : Type 0} → Option FileRefusal → X → Result X FileRefusal
@@ -24,7 +24,7 @@ unless None x = Ok x
 
 -- an answer that the tests decide: refused with the first refusal that comes, or else accepted with a value of which P holds
 abbrev pub Decided : {X : Type 0} → List Test → Result X FileRefusal → (X → Type 0) → Type 0
-Decided ts r P = MatchResult r (λ x. (first_of ts ≡ None) × P x) (λ e. first_of ts ≡ Some e)
+Decided ts r P = MatchResult r (λ x. (first_refusal ts ≡ None) × P x) (λ e. first_refusal ts ≡ Some e)
 
 abbrev pub Passes : Test → Type 0
 Passes t = t.0 ≡ false

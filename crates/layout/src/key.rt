@@ -3,7 +3,7 @@ ghost use Rattle.std.specs.Prelude.{◌≡◌, ◌^◌, ◌<◌, ◌≤◌, leng
 ghost use Rattle.keys.specs.Judged.{count_judged, judged};
 ghost use Rattle.keys.specs.Plans.{plan, plan_of};
 ghost use Rattle.layout.specs.Kinds.{roots};
-ghost use Rattle.layout.specs.Tests.{first_of, unless};
+ghost use Rattle.layout.specs.Tests.{first_refusal, unless};
 ghost use Rattle.layout.specs.Order.{key_byte, key_says};
 
 use crate::kind::FileKind;
@@ -28,7 +28,7 @@ fn byte_of(refusal: KeyRefusal) -> usize
 // What a key answers, as the file's answer.
 fn in_file(answer: Result<(), KeyRefusal>) -> Result<(), FileRefusal>
     requires { IfErr answer (λ e. key_byte e < 2 ^ 64) }
-    ensures { result ≡ unless (first_of (key_says answer)) tt }
+    ensures { result ≡ unless (first_refusal (key_says answer)) tt }
 {
     match answer {
         Ok(()) => Ok(()),
@@ -41,7 +41,7 @@ fn in_file(answer: Result<(), KeyRefusal>) -> Result<(), FileRefusal>
 
 // The kernel exists, and allows this number of stages.
 pub(crate) fn check_count(kernel: u8, count: usize) -> Result<(), FileRefusal>
-    ensures { result ≡ unless (first_of (key_says (count_judged kernel count))) tt }
+    ensures { result ≡ unless (first_refusal (key_says (count_judged kernel count))) tt }
 {
     in_file(check_stage_count(kernel, count))
 }
@@ -70,7 +70,7 @@ pub(crate) fn fill_in(
     stages: &[KeyStage],
 ) -> Result<(), FileRefusal>
     requires { length stages.now ≤ 7 }
-    ensures answer { result ≡ unless (first_of (key_says (judged (roots kind) kernel stages.now))) tt }
+    ensures answer { result ≡ unless (first_refusal (key_says (judged (roots kind) kernel stages.now))) tt }
     ensures key { MatchResult result (λ _. plan_of key.new ≡ plan kernel (roots kind) stages.now) (λ _. key.new ≡ key.old) }
 {
     in_file(fill_for(key, kind, kernel, stages))

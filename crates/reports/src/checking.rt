@@ -1,6 +1,6 @@
 // Which taps a report can hold.
 ghost use Rattle.std.specs.Prelude.{◌≡◌};
-ghost use Rattle.layout.specs.Tests.{first_of, unless};
+ghost use Rattle.layout.specs.Tests.{first_refusal, unless};
 ghost use Rattle.reports.specs.Reports.{outside, tap_outside, tap_tests};
 
 use layout::FileRefusal;
@@ -20,7 +20,7 @@ fn tap_outside(tap: (i64, i64)) -> bool
 
 // Every tap is one that a report can hold; `size` is the length of the file.
 pub(crate) fn check_taps(taps: &[(i64, i64)], size: usize) -> Result<(), FileRefusal>
-    ensures { result ≡ unless (first_of (tap_tests size taps.now)) tt }
+    ensures { result ≡ unless (first_refusal (tap_tests size taps.now)) tt }
 {
     for (index, tap) in taps.iter().enumerate() {
         if tap_outside(*tap) {

@@ -2,7 +2,7 @@
 ghost use Rattle.std.specs.Prelude.{◌≡◌, ◌+◌, ◌*◌, ◌≤◌, length, IfOk, None};
 ghost use Rattle.std.specs.List.{flat_map};
 ghost use Rattle.layout.specs.Kinds.{width};
-ghost use Rattle.layout.specs.Tests.{first_of, unless};
+ghost use Rattle.layout.specs.Tests.{first_refusal, unless};
 ghost use Rattle.reports.specs.Reports.{number_bytes, tap_bytes, report_head, report_bytes, report_length, laid, buffer_after, tap_tests, report_tests};
 
 use crate::checking::check_taps;
@@ -89,8 +89,8 @@ fn write_checked(
     size: usize,
 ) -> Result<usize, FileRefusal>
     requires { (length taps.now ≤ 256) × (report_length kind (length taps.now) ≤ length out.old) }
-    ensures value { result ≡ unless (first_of (tap_tests size taps.now)) (length (report_bytes kind (length taps.now) taps.now)) }
-    ensures after { out.new ≡ buffer_after (first_of (tap_tests size taps.now)) (report_bytes kind (length taps.now) taps.now) out.old }
+    ensures value { result ≡ unless (first_refusal (tap_tests size taps.now)) (length (report_bytes kind (length taps.now) taps.now)) }
+    ensures after { out.new ≡ buffer_after (first_refusal (tap_tests size taps.now)) (report_bytes kind (length taps.now) taps.now) out.old }
     ensures within { IfOk result (λ n. n ≤ length out.old) }
 {
     match check_taps(taps, size) {
@@ -107,8 +107,8 @@ pub fn write_report(
     taps: &[(i64, i64)],
     size: usize,
 ) -> Result<usize, FileRefusal>
-    ensures value { result ≡ unless (first_of (report_tests kind taps.now size (length out.old))) (length (report_bytes kind (length taps.now) taps.now)) }
-    ensures after { out.new ≡ buffer_after (first_of (report_tests kind taps.now size (length out.old))) (report_bytes kind (length taps.now) taps.now) out.old }
+    ensures value { result ≡ unless (first_refusal (report_tests kind taps.now size (length out.old))) (length (report_bytes kind (length taps.now) taps.now)) }
+    ensures after { out.new ≡ buffer_after (first_refusal (report_tests kind taps.now size (length out.old))) (report_bytes kind (length taps.now) taps.now) out.old }
     ensures within { IfOk result (λ n. n ≤ length out.old) }
 {
     if taps.len() == 0 || taps.len() > 256 {

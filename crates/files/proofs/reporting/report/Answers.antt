@@ -3,7 +3,7 @@ use Rattle.std.proofs.lemmas.Result.{err_from_is_err_and}
 use Rattle.keys.specs.Plans.{Plan, plan_of}
 use Rattle.layout.specs.declared.kind.FileKind.{FileKind}
 use Rattle.layout.specs.declared.refusal.FileRefusal.{FileRefusal}
-use Rattle.layout.specs.Tests.{Test, first_of, unless}
+use Rattle.layout.specs.Tests.{Test, first_refusal, unless}
 use Rattle.layout.specs.Fields.{kind_of, plan_in, room_byte_of, room_of, records_of}
 use Rattle.layout.specs.Order.{layout_tests}
 use Rattle.layout.proofs.Orders.{passed, stopped}
@@ -20,11 +20,11 @@ returns-in_err-sounding c =
     let p = err_from_is_err_and c.from_residual.result c.from_residual.ensures.1 in
     let all = file_tests file (length out) in
     let rest = tests_for (plan_in file) (room_of file) (records_of file) (kind_of file) (room_byte_of file) (length file) (length out) in
-    let e : first_of all ≡ Some c.in_err-sounding.field-0.0 = stopped (layout_tests file) rest c.in_err-sounding.field-0.0 c.in_err-sounding.ensures.answer in
+    let e : first_refusal all ≡ Some c.in_err-sounding.field-0.0 = stopped (layout_tests file) rest c.in_err-sounding.field-0.0 c.in_err-sounding.ensures.answer in
     rw (p.1, p.2) (record {
       order = comes all c.in_err-sounding.field-0.0 e;
-      value = refuses (first_of all) (length (report_of file)) c.in_err-sounding.field-0.0 e;
-      after = keeps (first_of all) (report_of file) out c.in_err-sounding.field-0.0 e;
+      value = refuses (first_refusal all) (length (report_of file)) c.in_err-sounding.field-0.0 e;
+      after = keeps (first_refusal all) (report_of file) out c.in_err-sounding.field-0.0 e;
       within = tt;
       laws = tt;
     })
@@ -39,16 +39,16 @@ returns c =
     let P : plan_of c.parse.new.key ≡ plan_in file = c.in_ok-sounding.ensures.key in
     let all = file_tests file (length out) in
     let rest = tests_for (plan_in file) (room_of file) (records_of file) (kind_of file) (room_byte_of file) (length file) (length out) in
-    let past : first_of all ≡ first_of rest = passed (layout_tests file) rest parsed.0 in
-    let v : c.report_by_kind.result ≡ unless (first_of all) (length (report_of file)) =
+    let past : first_refusal all ≡ first_refusal rest = passed (layout_tests file) rest parsed.0 in
+    let v : c.report_by_kind.result ≡ unless (first_refusal all) (length (report_of file)) =
     c.report_by_kind.ensures.value
-    ∙ (λ j. unless (first_of (tests_for (P j) (F.room_is j) (F.records_are j) (F.kind_is j) (F.byte_is j) (length file) (length out))) (length (report_for (P j) (F.room_is j) (F.records_are j) (F.kind_is j))))
+    ∙ (λ j. unless (first_refusal (tests_for (P j) (F.room_is j) (F.records_are j) (F.kind_is j) (F.byte_is j) (length file) (length out))) (length (report_for (P j) (F.room_is j) (F.records_are j) (F.kind_is j))))
     ∙ ap (λ (o : Option FileRefusal). unless o (length (report_of file))) (sym past) in
     record {
       order = in_order all (length (report_of file)) c.report_by_kind.result v;
       value = v;
       after = c.report_by_kind.ensures.after
-          ∙ (λ j. buffer_after (first_of (tests_for (P j) (F.room_is j) (F.records_are j) (F.kind_is j) (F.byte_is j) (length file) (length out))) (report_for (P j) (F.room_is j) (F.records_are j) (F.kind_is j)) out)
+          ∙ (λ j. buffer_after (first_refusal (tests_for (P j) (F.room_is j) (F.records_are j) (F.kind_is j) (F.byte_is j) (length file) (length out))) (report_for (P j) (F.room_is j) (F.records_are j) (F.kind_is j)) out)
           ∙ ap (λ (o : Option FileRefusal). buffer_after o (report_of file) out) (sym past);
       within = c.report_by_kind.ensures.within;
       laws = subst (λ (x : Type 0). x) (λ j. IfOk c.report_by_kind.result (λ _. LawsFor (P j) (F.room_is j) (F.records_are j) (F.kind_is j))) c.report_by_kind.ensures.laws;

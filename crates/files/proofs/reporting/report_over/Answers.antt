@@ -1,7 +1,7 @@
 use Rattle.std.proofs.Common.{◌≡◌, length, Some, sym, refl, ap, ◌∙◌}
 use Rattle.std.proofs.lemmas.Result.{err_from_is_err_and}
 use Rattle.pairs.specs.Pairs.{codes_of}
-use Rattle.layout.specs.Tests.{first_of, unless}
+use Rattle.layout.specs.Tests.{first_refusal, unless}
 use Rattle.layout.proofs.Orders.{passed, stopped}
 use Rattle.reports.specs.Reports.{report_bytes, buffer_after, tap_tests, report_tests}
 use Rattle.files.specs.Soundings.{taps}
@@ -21,9 +21,9 @@ returns-in_err-taps g c =
     let p = err_from_is_err_and c.from_residual.result c.from_residual.ensures.1 in
     let ts = taps k d kind room records in
     let all = sounding_tests k d kind room records c.args.sounding.room_byte c.args.size (length out) in
-    let e : first_of all ≡ Some c.in_err-taps.field-0.0 = stopped (record_tests k d kind room records c.args.sounding.room_byte c.args.size (length out)) (tap_tests c.args.size ts) c.in_err-taps.field-0.0 c.in_err-taps.ensures in
+    let e : first_refusal all ≡ Some c.in_err-taps.field-0.0 = stopped (record_tests k d kind room records c.args.sounding.room_byte c.args.size (length out)) (tap_tests c.args.size ts) c.in_err-taps.field-0.0 c.in_err-taps.ensures in
     let report = report_bytes kind room ts in
-    rw (p.1, p.2) (record { value = refuses (first_of all) (length report) c.in_err-taps.field-0.0 e; after = keeps (first_of all) report out c.in_err-taps.field-0.0 e; within = tt; laws = tt })
+    rw (p.1, p.2) (record { value = refuses (first_refusal all) (length report) c.in_err-taps.field-0.0 e; after = keeps (first_refusal all) report out c.in_err-taps.field-0.0 e; within = tt; laws = tt })
 
 pub returns : goal.returns
 returns g c =
@@ -40,15 +40,15 @@ returns g c =
     let same = taps_part room c.in_ok-taps.taps ts S.1.taps_are in
     let count = taps_count k d kind room records in
     let past = passed (record_tests k d kind room records at size (length out)) (tap_tests size ts) S.0 in
-    let tested : first_of (report_tests kind ts size (length out)) ≡ first_of (tap_tests size ts) = taps_decide kind ts room size (length out) count S.1.room_least S.1.room_most S.1.placed in
+    let tested : first_refusal (report_tests kind ts size (length out)) ≡ first_refusal (tap_tests size ts) = taps_decide kind ts room size (length out) count S.1.room_least S.1.room_most S.1.placed in
     let all = tested ∙ sym past in
     record {
       value = c.write_report.ensures.value
-          ∙ (λ j. unless (first_of (report_tests kind (same j) size (length out))) (length (report_bytes kind (length (same j)) (same j))))
+          ∙ (λ j. unless (first_refusal (report_tests kind (same j) size (length out))) (length (report_bytes kind (length (same j)) (same j))))
           ∙ (λ j. unless (all j) (length (report_bytes kind (count j) ts)));
       within = c.write_report.ensures.within;
       after = c.write_report.ensures.after
-          ∙ (λ j. buffer_after (first_of (report_tests kind (same j) size (length out))) (report_bytes kind (length (same j)) (same j)) out)
+          ∙ (λ j. buffer_after (first_refusal (report_tests kind (same j) size (length out))) (report_bytes kind (length (same j)) (same j)) out)
           ∙ (λ j. buffer_after (all j) (report_bytes kind (count j) ts) out);
       laws = made_any c.write_report.result S.1.laws;
     }

@@ -13,7 +13,7 @@ use Rattle.sounder.specs.States.{State, state_of, says, next}
 use Rattle.sounder.specs.Standing.{Stands}
 use Rattle.sounder.proofs.Standing.{stands_new}
 use Rattle.layout.specs.Kinds.{width}
-use Rattle.layout.specs.Tests.{first_of}
+use Rattle.layout.specs.Tests.{first_refusal}
 use Rattle.layout.proofs.Orders.{answers_some, answers_none}
 use Rattle.files.specs.Samples.{samples_in}
 use Rattle.files.specs.Soundings.{sounding_calls, record_calls, first_record, second_record}
@@ -37,7 +37,7 @@ returns-in_err-at_byte g c =
     let e = answers_some _ tt c.in_err-at_byte.field-0.0 c.in_err-at_byte.ensures in
     let idle : s.phase ≡ Idle = ap (λ (t : State g.P.Sample.Denot). t.phase) c.new-sounder.ensures.value in
     let said = c.open.ensures.value ∙ open_says k s d c.args.sounding.room idle in
-    rw (p.1, p.2) (stops_at_open k d c.args.sounding.kind c.args.sounding.room c.args.sounding.records.now c.args.sounding.room_byte c.args.size c.args.space c.in_err-at_byte.field-0.0 (ap (λ (r : Answer). first_of (sounder_says c.args.sounding.room_byte r)) (sym said) ∙ e))
+    rw (p.1, p.2) (stops_at_open k d c.args.sounding.kind c.args.sounding.room c.args.sounding.records.now c.args.sounding.room_byte c.args.size c.args.space c.in_err-at_byte.field-0.0 (ap (λ (r : Answer). first_refusal (sounder_says c.args.sounding.room_byte r)) (sym said) ∙ e))
 
 -- what holds once the sounder is opened: s is its state when it was new, v after the call
 record Opened (g : given.Over) (d : Codes g.P.Sample.Denot) (span room at : ℕ) (s v : State g.P.Sample.Denot) : Type 0 where
@@ -47,10 +47,10 @@ record Opened (g : given.Over) (d : Codes g.P.Sample.Denot) (span room at : ℕ)
   room_is : v.room ≡ room
   count_is : span + room - 1 ≡ full g.P.Sample.Kind d room
   begun : Begun g.P.Sample.Kind (span + room - 1) v
-  says_open : first_of (sounder_says at (answer_after g.P.Sample.Kind d new (Open room))) ≡ None
+  says_open : first_refusal (sounder_says at (answer_after g.P.Sample.Kind d new (Open room))) ≡ None
 
 opened : (g : given.Over) (d : Codes g.P.Sample.Denot) (span room at : ℕ) (s v : State g.P.Sample.Denot) (r : Answer) → s.codes ≡ d → s.phase ≡ Idle → span ≡ d.span
-    → r ≡ says g.P.Sample.Kind (Open room) s → v ≡ next g.P.Sample.Kind (Open room) s → first_of (sounder_says at r) ≡ None → Opened g d span room at s v
+    → r ≡ says g.P.Sample.Kind (Open room) s → v ≡ next g.P.Sample.Kind (Open room) s → first_refusal (sounder_says at r) ≡ None → Opened g d span room at s v
 opened g d span room at s v r codes idle size said after none =
     let k = g.P.Sample.Kind in
     let ok = ap accepted (sym said) ∙ none_refused at r none in
@@ -62,7 +62,7 @@ opened g d span room at s v r codes idle size said after none =
       room_is = ap (λ (t : State g.P.Sample.Denot). t.room) after ∙ opened_room k s room idle ok;
       count_is = n;
       begun = subst₂ (Begun k) (ap (λ (e : Codes g.P.Sample.Denot). full k e room) codes ∙ sym n) (sym after) (opened_begun k s room idle ok);
-      says_open = ap (λ (q : Answer). first_of (sounder_says at q)) (sym (said ∙ open_says k s d room idle)) ∙ none;
+      says_open = ap (λ (q : Answer). first_refusal (sounder_says at q)) (sym (said ∙ open_says k s d room idle)) ∙ none;
     }
 
 pub take_records-requires : goal.take_records-requires
@@ -89,7 +89,7 @@ returns-in_err-take_records g c =
     let O = opened g d c.span-span.result room at s v (done c.open.result) (ap (λ (t : State g.P.Sample.Denot). t.codes) value) (ap (λ (t : State g.P.Sample.Denot). t.phase) value) c.span-span.ensures.value c.open.ensures.value c.open.ensures.after (answers_none _ tt tt c.in_ok-at_byte.ensures) in
     let l : length records ≡ 2 * (width kind * n) = c.if-sounding-width.false ∙ ap (λ w. 2 * (w * n)) c.width.ensures in
     let p = err_from_is_err_and c.from_residual-in_err-take_records.result c.from_residual-in_err-take_records.ensures.1 in
-    let e = answers_some (first_of (samples_by k d kind room records at c.args.size c.args.space v.codes n)) tt c.in_err-take_records.field-0.0 c.in_err-take_records.ensures.value in
+    let e = answers_some (first_refusal (samples_by k d kind room records at c.args.size c.args.space v.codes n)) tt c.in_err-take_records.field-0.0 c.in_err-take_records.ensures.value in
     rw (p.1, p.2) (samples_decide k d kind room records at c.args.size c.args.space O.says_open n O.count_is v.codes O.codes_are l (omega arith) ∙ e)
 
 pub returns : goal.returns
@@ -109,7 +109,7 @@ returns g c =
     let idle = ap (λ (t : State g.P.Sample.Denot). t.phase) value in
     let O = opened g d c.span-span.result room at s v (done c.open.result) codes idle c.span-span.ensures.value c.open.ensures.value c.open.ensures.after (answers_none _ tt tt c.in_ok-at_byte.ensures) in
     let l : length records ≡ 2 * (width kind * n) = c.if-sounding-width.false ∙ ap (λ w. 2 * (w * n)) c.width.ensures in
-    let e = answers_none (first_of (samples_by k d kind room records at c.args.size c.args.space v.codes n)) tt tt c.in_ok-take_records.ensures.value in
+    let e = answers_none (first_refusal (samples_by k d kind room records at c.args.size c.args.space v.codes n)) tt tt c.in_ok-take_records.ensures.value in
     let K = laws g in
     let P = c.new-sounder.ensures.laws in
     let start = g.P.Pair.pending c.args.pair in

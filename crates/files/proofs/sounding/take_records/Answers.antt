@@ -8,7 +8,7 @@ use Rattle.calls.specs.Answers.{done}
 use Rattle.sounder.specs.States.{State, state_of, next}
 use Rattle.layout.specs.declared.kind.FileKind.{FileKind}
 use Rattle.layout.specs.Kinds.{width}
-use Rattle.layout.specs.Tests.{Test, first_of, unless}
+use Rattle.layout.specs.Tests.{Test, first_refusal, unless}
 use Rattle.layout.proofs.Orders.{passed, stopped, answers_some, answers_none}
 use Rattle.files.specs.Samples.{samples_in}
 use Rattle.files.specs.Order.{sounder_says, sample_tests}
@@ -31,8 +31,8 @@ module _ (g : given.Over) (codes : Codes g.P.Sample.Denot) (kind : FileKind) (re
   rest_is v rest e r = r ∙ ap (λ w. drop (w * n) records) e
 
   second_same : (v : ℕ) (rest : List ℕ) (others : Codes g.P.Sample.Denot) → v ≡ width kind → rest ≡ drop (v * n) records → others ≡ codes
-      → first_of (sample_tests g.P.Sample.Kind others kind (from + v * n) (samples_in kind rest n)) ≡ first_of second_tests
-  second_same v rest others e r f = λ j. first_of (sample_tests g.P.Sample.Kind (f j) kind (from + e j * n) (samples_in kind (rest_is v rest e r j) n))
+      → first_refusal (sample_tests g.P.Sample.Kind others kind (from + v * n) (samples_in kind rest n)) ≡ first_refusal second_tests
+  second_same v rest others e r f = λ j. first_refusal (sample_tests g.P.Sample.Kind (f j) kind (from + e j * n) (samples_in kind (rest_is v rest e r j) n))
 
 pub returns-in_err-feed : goal.returns-in_err-feed
 returns-in_err-feed g c =
@@ -40,7 +40,7 @@ returns-in_err-feed g c =
     let p = err_from_is_err_and c.from_residual.result c.from_residual.ensures.1 in
     let one = first_tests g codes c.args.kind c.args.records.now c.args.count c.args.from in
     let two = second_tests g codes c.args.kind c.args.records.now c.args.count c.args.from in
-    let e = answers_some (first_of one) tt c.in_err-feed.field-0.0 c.in_err-feed.ensures.value in
+    let e = answers_some (first_refusal one) tt c.in_err-feed.field-0.0 c.in_err-feed.ensures.value in
     rw (p.1, p.2) (record { value = sym (ap (λ o. unless o tt) (stopped one two c.in_err-feed.field-0.0 e)); state = tt; ended = tt })
 
 pub returns-in_err-at_byte : goal.returns-in_err-at_byte
@@ -70,7 +70,7 @@ returns-in_err-feed-2 g c =
     let one = first_tests g s.codes c.args.kind c.args.records.now c.args.count c.args.from in
     let two = second_tests g s.codes c.args.kind c.args.records.now c.args.count c.args.from in
     let same = second_same g s.codes c.args.kind c.args.records.now c.args.count c.args.from c.width.result _ _ c.width.ensures c.behind_first.ensures (ap (λ (u : State g.P.Sample.Denot). u.codes) c.turn.ensures.after ∙ turned_codes k c.args.count s t c.requires.0 c.in_ok-feed.ensures.taken) in
-    let a = answers_none (first_of one) tt tt c.in_ok-feed.ensures.value in
+    let a = answers_none (first_refusal one) tt tt c.in_ok-feed.ensures.value in
     let e = answers_some _ tt c.in_err-feed-2.field-0.0 c.in_err-feed-2.ensures.value in
     rw (p.1, p.2) (record { value = sym (ap (λ o. unless o tt) (passed one two a ∙ sym same ∙ e)); state = tt; ended = tt })
 
@@ -86,7 +86,7 @@ returns g c =
     let one = first_tests g s.codes c.args.kind c.args.records.now c.args.count c.args.from in
     let two = second_tests g s.codes c.args.kind c.args.records.now c.args.count c.args.from in
     let same = second_same g s.codes c.args.kind c.args.records.now c.args.count c.args.from c.width.result _ _ c.width.ensures c.behind_first.ensures (ap (λ (u : State g.P.Sample.Denot). u.codes) c.turn.ensures.after ∙ turned_codes k c.args.count s t B T) in
-    let a = answers_none (first_of one) tt tt c.in_ok-feed.ensures.value in
+    let a = answers_none (first_refusal one) tt tt c.in_ok-feed.ensures.value in
     let b = answers_none _ tt tt c.in_ok-feed-2.ensures.value in
     let U : Took c.args.count (next k Turn t) u = subst (λ (q : State g.P.Sample.Denot). Took c.args.count q u) c.turn.ensures.after c.in_ok-feed-2.ensures.taken in
     let d : done c.close.result ≡ Done = c.close.ensures.value ∙ closes k c.args.count s t B T u U in
@@ -96,7 +96,7 @@ returns g c =
     c.in_ok-feed-2.ensures.state ∙ (λ j. led k (sample_calls (samples_in c.args.kind (rest_is g s.codes c.args.kind c.args.records.now c.args.count c.args.from c.width.result _ c.width.ensures c.behind_first.ensures j) c.args.count)) (c.turn.ensures.after j)) in
     let all = c.close.ensures.after ∙ ap (next k Close) (u-is ∙ ap (λ (q : State g.P.Sample.Denot). led k (sample_calls ys) (next k Turn q)) c.in_ok-feed.ensures.state) ∙ sym (led_records k xs ys s) in
     record {
-      value = c.at_byte-2.ensures ∙ ap (λ r. unless (first_of (sounder_says (c.args.from + 2 * (c.width.result * c.args.count)) r)) tt) d ∙ sym (ap (λ o. unless o tt) (passed one two a ∙ sym same ∙ b));
+      value = c.at_byte-2.ensures ∙ ap (λ r. unless (first_refusal (sounder_says (c.args.from + 2 * (c.width.result * c.args.count)) r)) tt) d ∙ sym (ap (λ o. unless o tt) (passed one two a ∙ sym same ∙ b));
       state = made_any c.at_byte-2.result all;
       ended = made_any c.at_byte-2.result (closed_phase k c.args.count s t B T u U _ c.close.ensures.after, closed_room k c.args.count s t B T u U _ c.close.ensures.after);
     }

@@ -6,13 +6,13 @@ use Rattle.layout.proofs.Rests.{rests_are}
 use Rattle.layout.proofs.Stages.{left_length, past_length, room_in, next_stage, stages_more, stages_all}
 use Rattle.layout.proofs.fields.take_fields.Goals as goal
 
-pub returns-in-default : goal.returns-in-default
-returns-in-default c =
+pub returns-in_default : goal.returns-in_default
+returns-in_default c =
     let e = left_length c.args.bytes.now c.loop-i.rest.now (2 * c.loop-i.i) c.loop-i.invariant.0 in
     stage_missing (6 + length c.args.bytes.now) c.args.count (6 + 2 * c.loop-i.i) (omega (arith, ltb-true)) (omega arith) (omega (arith, ltb-true))
 
-pub returns-in-default-more : goal.returns-in-default-more
-returns-in-default-more c =
+pub returns-in_default-more : goal.returns-in_default-more
+returns-in_default-more c =
     let e = left_length c.args.bytes.now c.loop-i.rest.now (2 * c.loop-i.i) c.loop-i.invariant.0 in
     let p = past_length c.loop-i.rest.now 1 in
     stage_missing (6 + length c.args.bytes.now) c.args.count (7 + 2 * c.loop-i.i) (omega (arith, ltb-true, ltb-false)) (omega arith) (omega (arith, ltb-true, ltb-false))
@@ -24,10 +24,10 @@ loop-i-preserved c =
     let p = past_length c.loop-i.rest.now 1 in
     (next_stage c.args.bytes.now c.loop-i.rest.now c.loop-i.i is, omega (arith, ltb-false), length-set _ _ _ ∙ c.loop-i.invariant.2, stages_more c.args.bytes.now c.loop-i.rest.now c.loop-i.i is c.loop-i.stages _ (omega arith) c.loop-i.invariant.3)
 
-pub returns-in-default-default : goal.returns-in-default-default
-returns-in-default-default c =
+pub returns-in_default-rest : goal.returns-in_default-rest
+returns-in_default-rest c =
     let e = left_length c.args.bytes.now c.loop-i.rest.now (2 * c.loop-i.i) c.loop-i.invariant.0 in
-    room_missing (6 + length c.args.bytes.now) c.args.count (omega arith) (omega (arith, ltb-true)) ∙ ap (λ b. Some (Length b)) (sym c.room_byte_of.ensures)
+    room_missing (6 + length c.args.bytes.now) c.args.count (omega arith) (omega (arith, ltb-true)) ∙ ap (λ b. Some (Length b)) (sym c.room_byte.ensures)
 
 pub returns : goal.returns
 returns c =

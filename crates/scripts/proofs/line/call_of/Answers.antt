@@ -14,5 +14,5 @@ returns-in-len2 c = c.call_with_word.ensures ∙ sym (two c.args.words.now _ _ (
 pub returns-in-len3 : goal.returns-in-len3
 returns-in-len3 c = c.call_with_two.ensures ∙ sym (three c.args.words.now _ _ _ (search rules))
 
-pub returns-in-default : goal.returns-in-default
-returns-in-default c = sym (more c.args.words.now (search rules))
+pub returns-in_default : goal.returns-in_default
+returns-in_default c = sym (more c.args.words.now (search rules))

@@ -3,6 +3,6 @@ use Rattle.std.proofs.lemmas.Bool.{cond-false}
 use Rattle.keytext.proofs.Texts.{differs}
 use Rattle.scripts.proofs.line.call_with_two.Goals as goal
 
-pub returns-in-default : goal.returns-in-default
-returns-in-default c =
-    sym (cond-false _ _ _ (differs _ _ c.in-default.not-sample) ∙ cond-false _ _ _ (differs _ _ c.in-default.not_code))
+pub returns-in_default : goal.returns-in_default
+returns-in_default c =
+    sym (cond-false _ _ _ (differs _ _ c.in_default.not-sample) ∙ cond-false _ _ _ (differs _ _ c.in_default.not-code))
