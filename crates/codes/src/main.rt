@@ -15,6 +15,7 @@ use kinds::hall::Hall;
 use kinds::radio::Radio;
 use scripts::key_refusal_text;
 use std::io;
+use std::process::ExitCode;
 
 // Why a run ends without codes.
 #[derive(Drop)]
@@ -75,10 +76,12 @@ fn tell(rt: &HostRuntime, stop: &Stop) {
     };
 }
 
-fn main(rt: HostRuntime) -> Result<(), Stop> {
-    let done = run(&rt);
-    if let Err(stop) = &done {
-        tell(&rt, stop);
+fn main(rt: HostRuntime) -> ExitCode {
+    match run(&rt) {
+        Ok(()) => ExitCode::SUCCESS,
+        Err(stop) => {
+            tell(&rt, &stop);
+            ExitCode::FAILURE
+        }
     }
-    done
 }

@@ -9,6 +9,7 @@ use filetext::refusal_line;
 use layout::FileRefusal;
 use std::io;
 use std::io::{Read, Write};
+use std::process::ExitCode;
 
 // The input, or as much of it as tells that it is too long.
 fn read_input(rt: &HostRuntime) -> io::Result<Vec<u8>> {
@@ -32,10 +33,12 @@ fn run(rt: &HostRuntime) -> Result<(), Stop> {
     }
 }
 
-fn main(rt: HostRuntime) -> Result<(), Stop> {
-    let done = run(&rt);
-    if let Err(stop) = &done {
-        tell(&rt, stop);
+fn main(rt: HostRuntime) -> ExitCode {
+    match run(&rt) {
+        Ok(()) => ExitCode::SUCCESS,
+        Err(stop) => {
+            tell(&rt, &stop);
+            ExitCode::FAILURE
+        }
     }
-    done
 }

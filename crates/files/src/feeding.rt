@@ -27,7 +27,7 @@ pub(crate) fn at_byte(answer: Result<(), Refusal>, byte: usize) -> Result<(), Fi
 
 // Gives one sample to a sounder, by its two words.
 fn give<P: Pair>(sounder: &mut Sounder<P>, words: (i64, i64)) -> Result<(), Refusal>
-    ensures { Does Call.Sample.Kind P.Pair (Call.Sample words.0 words.1) sounder.old sounder.new (done result) }
+    ensures { Does P.Sample.Kind P.Pair (Call.Sample words.0 words.1) sounder.old sounder.new (done result) }
 {
     sounder.sample(words.0, words.1)
 }

@@ -16,6 +16,7 @@ use kinds::Kind;
 use kinds::hall::Hall;
 use kinds::radio::Radio;
 use std::io;
+use std::process::ExitCode;
 
 // Reads all calls, gives them to a sounder, and prints the sheet as one text.
 fn print_answers<K: Kind>(rt: &HostRuntime, key: &Key, script: &str) -> Result<(), Stop> {
@@ -48,10 +49,12 @@ fn run(rt: &HostRuntime) -> Result<(), Stop> {
     }
 }
 
-fn main(rt: HostRuntime) -> Result<(), Stop> {
-    let done = run(&rt);
-    if let Err(stop) = &done {
-        tell(&rt, stop);
+fn main(rt: HostRuntime) -> ExitCode {
+    match run(&rt) {
+        Ok(()) => ExitCode::SUCCESS,
+        Err(stop) => {
+            tell(&rt, &stop);
+            ExitCode::FAILURE
+        }
     }
-    done
 }

@@ -57,7 +57,7 @@ loop-t-preserved g c =
     let same = test_is k was is c.args.count t c.requires.0 c.loop-t.invariant.2 c.args.kind c.args.from _ (get_or xs t none) (done c.give-answer.result) _ _ c.loop-t-test.true x byte said in
     let ok = ap accepted (sym said) ∙ none_refused _ (done c.give-answer.result) e in (
       sym (each_later (sample_test k was.codes c.args.kind c.args.from) xs t none l (sym same ∙ e)) ∙ c.loop-t.invariant.0,
-      c.give-answer.ensures.after ∙ ap₂ (λ (y : ℤ × ℤ) (s : State g.P.Sample.Denot). next k (Sample y.0 y.1) s) (sym x) c.loop-t.invariant.1 ∙ sym (led_more k xs t none was l),
+      c.give-answer.ensures.after ∙ ap₂ (λ (y : ℤ × ℤ) (s : State g.row.P-Sample.Denot). next k (Sample y.0 y.1) s) (sym x) c.loop-t.invariant.1 ∙ sym (led_more k xs t none was l),
       subst (Took (t + 1) was) (sym c.give-answer.ensures.after) (took_next k was is c.args.count t c.requires.0 c.loop-t.invariant.2 c.loop-t-test.true _ _ ok),
     )
 

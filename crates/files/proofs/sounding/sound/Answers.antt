@@ -35,12 +35,12 @@ returns-in_err-at_byte g c =
     let d = codes_of g.P.Pair c.args.pair in
     let p = err_from_is_err_and c.from_residual.result c.from_residual.ensures.1 in
     let e = answers_some _ tt c.in_err-at_byte.field-0.0 c.in_err-at_byte.ensures in
-    let idle : s.phase ≡ Idle = ap (λ (t : State g.P.Sample.Denot). t.phase) c.new-sounder.ensures.value in
+    let idle : s.phase ≡ Idle = ap (λ (t : State g.row.P-Sample.Denot). t.phase) c.new-sounder.ensures.value in
     let said = c.open.ensures.value ∙ open_says k s d c.args.sounding.room idle in
     rw (p.1, p.2) (stops_at_open k d c.args.sounding.kind c.args.sounding.room c.args.sounding.records.now c.args.sounding.room_byte c.args.size c.args.space c.in_err-at_byte.field-0.0 (ap (λ (r : Answer). first_refusal (sounder_says c.args.sounding.room_byte r)) (sym said) ∙ e))
 
 -- what holds once the sounder is opened: s is its state when it was new, v after the call
-record Opened (g : given.Over) (d : Codes g.P.Sample.Denot) (span room at : ℕ) (s v : State g.P.Sample.Denot) : Type 0 where
+record Opened (g : given.Over) (d : Codes g.row.P-Sample.Denot) (span room at : ℕ) (s v : State g.row.P-Sample.Denot) : Type 0 where
   least : 1 ≤ room
   most : room ≤ 256
   codes_are : v.codes ≡ d
@@ -49,7 +49,7 @@ record Opened (g : given.Over) (d : Codes g.P.Sample.Denot) (span room at : ℕ)
   begun : Begun g.P.Sample.Kind (span + room - 1) v
   says_open : first_refusal (sounder_says at (answer_after g.P.Sample.Kind d new (Open room))) ≡ None
 
-opened : (g : given.Over) (d : Codes g.P.Sample.Denot) (span room at : ℕ) (s v : State g.P.Sample.Denot) (r : Answer) → s.codes ≡ d → s.phase ≡ Idle → span ≡ d.span
+opened : (g : given.Over) (d : Codes g.row.P-Sample.Denot) (span room at : ℕ) (s v : State g.row.P-Sample.Denot) (r : Answer) → s.codes ≡ d → s.phase ≡ Idle → span ≡ d.span
     → r ≡ says g.P.Sample.Kind (Open room) s → v ≡ next g.P.Sample.Kind (Open room) s → first_refusal (sounder_says at r) ≡ None → Opened g d span room at s v
 opened g d span room at s v r codes idle size said after none =
     let k = g.P.Sample.Kind in
@@ -58,10 +58,10 @@ opened g d span room at s v r codes idle size said after none =
     record {
       least = (room_bounds k s room idle ok).0;
       most = (room_bounds k s room idle ok).1;
-      codes_are = ap (λ (t : State g.P.Sample.Denot). t.codes) after ∙ opened_codes k s room idle ok ∙ codes;
-      room_is = ap (λ (t : State g.P.Sample.Denot). t.room) after ∙ opened_room k s room idle ok;
+      codes_are = ap (λ (t : State g.row.P-Sample.Denot). t.codes) after ∙ opened_codes k s room idle ok ∙ codes;
+      room_is = ap (λ (t : State g.row.P-Sample.Denot). t.room) after ∙ opened_room k s room idle ok;
       count_is = n;
-      begun = subst₂ (Begun k) (ap (λ (e : Codes g.P.Sample.Denot). full k e room) codes ∙ sym n) (sym after) (opened_begun k s room idle ok);
+      begun = subst₂ (Begun k) (ap (λ (e : Codes g.row.P-Sample.Denot). full k e room) codes ∙ sym n) (sym after) (opened_begun k s room idle ok);
       says_open = ap (λ (q : Answer). first_refusal (sounder_says at q)) (sym (said ∙ open_says k s d room idle)) ∙ none;
     }
 
@@ -71,7 +71,7 @@ take_records-requires g c =
     let s = state_of k g.P.Pair c.new-sounder.result in
     let v = state_of k g.P.Pair c.open.new.self in
     let value = c.new-sounder.ensures.value in
-    let O = opened g (codes_of g.P.Pair c.args.pair) c.span-span.result c.args.sounding.room c.args.sounding.room_byte s v (done c.open.result) (ap (λ (t : State g.P.Sample.Denot). t.codes) value) (ap (λ (t : State g.P.Sample.Denot). t.phase) value) c.span-span.ensures.value c.open.ensures.value c.open.ensures.after (answers_none _ tt tt c.in_ok-at_byte.ensures) in
+    let O = opened g (codes_of g.P.Pair c.args.pair) c.span-span.result c.args.sounding.room c.args.sounding.room_byte s v (done c.open.result) (ap (λ (t : State g.row.P-Sample.Denot). t.codes) value) (ap (λ (t : State g.row.P-Sample.Denot). t.phase) value) c.span-span.ensures.value c.open.ensures.value c.open.ensures.after (answers_none _ tt tt c.in_ok-at_byte.ensures) in
     (O.begun, (c.if-sounding-width.false ∙ ap (λ w. 2 * (w * (c.span-span.result + c.args.sounding.room - 1))) c.width.ensures, omega arith))
 
 pub returns-in_err-take_records : goal.returns-in_err-take_records
@@ -86,7 +86,7 @@ returns-in_err-take_records g c =
     let s = state_of k g.P.Pair c.new-sounder.result in
     let v = state_of k g.P.Pair c.open.new.self in
     let value = c.new-sounder.ensures.value in
-    let O = opened g d c.span-span.result room at s v (done c.open.result) (ap (λ (t : State g.P.Sample.Denot). t.codes) value) (ap (λ (t : State g.P.Sample.Denot). t.phase) value) c.span-span.ensures.value c.open.ensures.value c.open.ensures.after (answers_none _ tt tt c.in_ok-at_byte.ensures) in
+    let O = opened g d c.span-span.result room at s v (done c.open.result) (ap (λ (t : State g.row.P-Sample.Denot). t.codes) value) (ap (λ (t : State g.row.P-Sample.Denot). t.phase) value) c.span-span.ensures.value c.open.ensures.value c.open.ensures.after (answers_none _ tt tt c.in_ok-at_byte.ensures) in
     let l : length records ≡ 2 * (width kind * n) = c.if-sounding-width.false ∙ ap (λ w. 2 * (w * n)) c.width.ensures in
     let p = err_from_is_err_and c.from_residual-in_err-take_records.result c.from_residual-in_err-take_records.ensures.1 in
     let e = answers_some (first_refusal (samples_by k d kind room records at c.args.size c.args.space v.codes n)) tt c.in_err-take_records.field-0.0 c.in_err-take_records.ensures.value in
@@ -105,20 +105,20 @@ returns g c =
     let v = state_of k g.P.Pair c.open.new.self in
     let u = state_of k g.P.Pair c.take_records.new.sounder in
     let value = c.new-sounder.ensures.value in
-    let codes = ap (λ (t : State g.P.Sample.Denot). t.codes) value in
-    let idle = ap (λ (t : State g.P.Sample.Denot). t.phase) value in
+    let codes = ap (λ (t : State g.row.P-Sample.Denot). t.codes) value in
+    let idle = ap (λ (t : State g.row.P-Sample.Denot). t.phase) value in
     let O = opened g d c.span-span.result room at s v (done c.open.result) codes idle c.span-span.ensures.value c.open.ensures.value c.open.ensures.after (answers_none _ tt tt c.in_ok-at_byte.ensures) in
     let l : length records ≡ 2 * (width kind * n) = c.if-sounding-width.false ∙ ap (λ w. 2 * (w * n)) c.width.ensures in
     let e = answers_none (first_refusal (samples_by k d kind room records at c.args.size c.args.space v.codes n)) tt tt c.in_ok-take_records.ensures.value in
     let K = laws g in
     let P = c.new-sounder.ensures.laws in
     let start = g.P.Pair.pending c.args.pair in
-    let T : Stands k d start s new = stands_new k d start K.algebra K.conjugation P.span_least s codes (ap (λ (t : State g.P.Sample.Denot). t.pending) value) idle (ap (λ (t : State g.P.Sample.Denot). t.room) value) (ap (λ (t : State g.P.Sample.Denot). t.count) value) (λ i. ap (λ (t : State g.P.Sample.Denot). t.sums i) value) in
+    let T : Stands k d start s new = stands_new k d start K.algebra K.conjugation P.span_least s codes (ap (λ (t : State g.row.P-Sample.Denot). t.pending) value) idle (ap (λ (t : State g.row.P-Sample.Denot). t.room) value) (ap (λ (t : State g.row.P-Sample.Denot). t.count) value) (λ i. ap (λ (t : State g.row.P-Sample.Denot). t.sums i) value) in
     let xs = sounding_calls room (first_record k d kind room records) (second_record k d kind room records) in
     let u-is : u ≡ led k xs s =
     c.in_ok-take_records.ensures.state ∙ (λ j. led k (record_calls (samples_in kind records (O.count_is j)) (samples_in kind (drop (width kind * O.count_is j) records) (O.count_is j))) (c.open.ensures.after j)) in
-    let phase : (led k xs s).phase ≡ Complete = ap (λ (t : State g.P.Sample.Denot). t.phase) (sym u-is) ∙ c.in_ok-take_records.ensures.ended.0 in
-    let room_is : (led k xs s).room ≡ room = ap (λ (t : State g.P.Sample.Denot). t.room) (sym u-is) ∙ c.in_ok-take_records.ensures.ended.1 ∙ O.room_is in (
+    let phase : (led k xs s).phase ≡ Complete = ap (λ (t : State g.row.P-Sample.Denot). t.phase) (sym u-is) ∙ c.in_ok-take_records.ensures.ended.0 in
+    let room_is : (led k xs s).room ≡ room = ap (λ (t : State g.row.P-Sample.Denot). t.room) (sym u-is) ∙ c.in_ok-take_records.ensures.ended.1 ∙ O.room_is in (
       samples_decide k d kind room records at c.args.size c.args.space O.says_open n O.count_is v.codes O.codes_are l (omega arith) ∙ e,
       record {
         taps_are = c.gather.ensures ∙ taps_are k K d start P xs s T u u-is (range_with_len 0 room);

@@ -19,7 +19,7 @@ use Rattle.files.proofs.sounding.take_records.Given as given
 use Rattle.files.proofs.sounding.take_records.Goals as goal
 
 -- the tests on both records
-module _ (g : given.Over) (codes : Codes g.P.Sample.Denot) (kind : FileKind) (records : List ℕ) (n from : ℕ) where
+module _ (g : given.Over) (codes : Codes g.row.P-Sample.Denot) (kind : FileKind) (records : List ℕ) (n from : ℕ) where
   abbrev first_tests : List Test
   first_tests = sample_tests g.P.Sample.Kind codes kind from (samples_in kind records n)
 
@@ -30,7 +30,7 @@ module _ (g : given.Over) (codes : Codes g.P.Sample.Denot) (kind : FileKind) (re
   rest_is : (v : ℕ) (rest : List ℕ) → v ≡ width kind → rest ≡ drop (v * n) records → rest ≡ drop (width kind * n) records
   rest_is v rest e r = r ∙ ap (λ w. drop (w * n) records) e
 
-  second_same : (v : ℕ) (rest : List ℕ) (others : Codes g.P.Sample.Denot) → v ≡ width kind → rest ≡ drop (v * n) records → others ≡ codes
+  second_same : (v : ℕ) (rest : List ℕ) (others : Codes g.row.P-Sample.Denot) → v ≡ width kind → rest ≡ drop (v * n) records → others ≡ codes
       → first_refusal (sample_tests g.P.Sample.Kind others kind (from + v * n) (samples_in kind rest n)) ≡ first_refusal second_tests
   second_same v rest others e r f = λ j. first_refusal (sample_tests g.P.Sample.Kind (f j) kind (from + e j * n) (samples_in kind (rest_is v rest e r j) n))
 
@@ -69,7 +69,7 @@ returns-in_err-feed-2 g c =
     let p = err_from_is_err_and c.from_residual-in_err-feed-2.result c.from_residual-in_err-feed-2.ensures.1 in
     let one = first_tests g s.codes c.args.kind c.args.records.now c.args.count c.args.from in
     let two = second_tests g s.codes c.args.kind c.args.records.now c.args.count c.args.from in
-    let same = second_same g s.codes c.args.kind c.args.records.now c.args.count c.args.from c.width.result _ _ c.width.ensures c.behind_first.ensures (ap (λ (u : State g.P.Sample.Denot). u.codes) c.turn.ensures.after ∙ turned_codes k c.args.count s t c.requires.0 c.in_ok-feed.ensures.taken) in
+    let same = second_same g s.codes c.args.kind c.args.records.now c.args.count c.args.from c.width.result _ _ c.width.ensures c.behind_first.ensures (ap (λ (u : State g.row.P-Sample.Denot). u.codes) c.turn.ensures.after ∙ turned_codes k c.args.count s t c.requires.0 c.in_ok-feed.ensures.taken) in
     let a = answers_none (first_refusal one) tt tt c.in_ok-feed.ensures.value in
     let e = answers_some _ tt c.in_err-feed-2.field-0.0 c.in_err-feed-2.ensures.value in
     rw (p.1, p.2) (record { value = sym (ap (λ o. unless o tt) (passed one two a ∙ sym same ∙ e)); state = tt; ended = tt })
@@ -85,16 +85,16 @@ returns g c =
     let T = c.in_ok-feed.ensures.taken in
     let one = first_tests g s.codes c.args.kind c.args.records.now c.args.count c.args.from in
     let two = second_tests g s.codes c.args.kind c.args.records.now c.args.count c.args.from in
-    let same = second_same g s.codes c.args.kind c.args.records.now c.args.count c.args.from c.width.result _ _ c.width.ensures c.behind_first.ensures (ap (λ (u : State g.P.Sample.Denot). u.codes) c.turn.ensures.after ∙ turned_codes k c.args.count s t B T) in
+    let same = second_same g s.codes c.args.kind c.args.records.now c.args.count c.args.from c.width.result _ _ c.width.ensures c.behind_first.ensures (ap (λ (u : State g.row.P-Sample.Denot). u.codes) c.turn.ensures.after ∙ turned_codes k c.args.count s t B T) in
     let a = answers_none (first_refusal one) tt tt c.in_ok-feed.ensures.value in
     let b = answers_none _ tt tt c.in_ok-feed-2.ensures.value in
-    let U : Took c.args.count (next k Turn t) u = subst (λ (q : State g.P.Sample.Denot). Took c.args.count q u) c.turn.ensures.after c.in_ok-feed-2.ensures.taken in
+    let U : Took c.args.count (next k Turn t) u = subst (λ (q : State g.row.P-Sample.Denot). Took c.args.count q u) c.turn.ensures.after c.in_ok-feed-2.ensures.taken in
     let d : done c.close.result ≡ Done = c.close.ensures.value ∙ closes k c.args.count s t B T u U in
     let ys = samples_in c.args.kind (drop (width c.args.kind * c.args.count) c.args.records.now) c.args.count in
     let xs = samples_in c.args.kind c.args.records.now c.args.count in
     let u-is : u ≡ led k (sample_calls ys) (next k Turn t) =
     c.in_ok-feed-2.ensures.state ∙ (λ j. led k (sample_calls (samples_in c.args.kind (rest_is g s.codes c.args.kind c.args.records.now c.args.count c.args.from c.width.result _ c.width.ensures c.behind_first.ensures j) c.args.count)) (c.turn.ensures.after j)) in
-    let all = c.close.ensures.after ∙ ap (next k Close) (u-is ∙ ap (λ (q : State g.P.Sample.Denot). led k (sample_calls ys) (next k Turn q)) c.in_ok-feed.ensures.state) ∙ sym (led_records k xs ys s) in
+    let all = c.close.ensures.after ∙ ap (next k Close) (u-is ∙ ap (λ (q : State g.row.P-Sample.Denot). led k (sample_calls ys) (next k Turn q)) c.in_ok-feed.ensures.state) ∙ sym (led_records k xs ys s) in
     record {
       value = c.at_byte-2.ensures ∙ ap (λ r. unless (first_refusal (sounder_says (c.args.from + 2 * (c.width.result * c.args.count)) r)) tt) d ∙ sym (ap (λ o. unless o tt) (passed one two a ∙ sym same ∙ b));
       state = made_any c.at_byte-2.result all;
