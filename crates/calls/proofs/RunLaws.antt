@@ -1,5 +1,5 @@
 -- What follows of a run in which every call got the answer that the calls before it determine.
-use Rattle.std.proofs.Common.{◌≡◌, ℕ, ◌+◌, ◌-◌, ◌^◌, ◌<◌, ◌≤◌, Bool, true, false, cond, eqb, ltb, List, [], length, ℤ, Option, sym, refl, ap, ◌∙◌, subst, ap₂, ⊎_elim, arith}
+use Rattle.std.proofs.Common.{◌≡◌, ℕ, ◌+◌, ◌^◌, ◌<◌, ◌≤◌, Bool, true, false, cond, eqb, ltb, List, [], length, ℤ, Option, sym, refl, ap, ◌∙◌, subst, ap₂, ⊎_elim, arith}
 use lib.ListN.{get_or-eq_default}
 use Rattle.std.proofs.lemmas.Bool.{cases_lt, false≢true, ltb-true, lt-ltb, eqb-true, cond-true}
 use Rattle.kinds.specs.Kinds.{KindModel, KindLaws}
@@ -10,14 +10,13 @@ use Rattle.sums.specs.Rooms.{at, correlation, sum_at, rounded, Near}
 use Rattle.sums.proofs.Pushes.{sum_at_same, sum_at_add}
 use Rattle.sums.proofs.Noise.{magnitude_zero}
 use Rattle.sums.proofs.Taps.{taps_near}
-use Rattle.calls.specs.declared.phase.Phase.{Phase}
 use Rattle.calls.specs.declared.refusal.Refusal.{Refusal}
 use Rattle.calls.specs.declared.refusal.Refusal.TheVariants.{WrongPhase, RecordNotFull, Index}
 use Rattle.calls.specs.declared.call.Call.{Call}
 use Rattle.calls.specs.declared.call.Call.TheVariants.{Open, Sample, Turn, Close, Abandon, Code, Sum, Tap}
 use Rattle.calls.specs.declared.call.Answer.{Answer}
-use Rattle.calls.specs.declared.call.Answer.TheVariants.{Done, Words, Refused}
-use Rattle.calls.specs.Phases.{may_sample, may_turn, may_close, may_read}
+use Rattle.calls.specs.declared.call.Answer.TheVariants.{Done, Words}
+use Rattle.calls.specs.Phases.{may_turn, may_close, may_read}
 use Rattle.calls.specs.Answers.{accepted, require, words_of, full}
 use Rattle.calls.specs.Runs
 

@@ -1,5 +1,5 @@
 -- What is answered, and what the buffer then holds, by what the tests come to.
-use Rattle.std.proofs.Common.{◌≡◌, ℕ, ◌-◌, ◌≤◌, not, leb, List, map, length, take, ℤ, Some, Err, Option, Result, sym, ap, ◌∙◌, subst, arith}
+use Rattle.std.proofs.Common.{◌≡◌, ℕ, ◌-◌, ◌≤◌, not, leb, List, length, take, ℤ, Some, Err, Option, Result, sym, ap, ◌∙◌, subst, arith}
 use native.Mathlib.Nat.{sub-zero}
 use Rattle.std.proofs.lemmas.List.FromFn.{length-map-range_with_len}
 use Rattle.std.proofs.lemmas.Bool.{le-leb, le-ltb, and_from, cond-false}

@@ -1,5 +1,5 @@
 -- How the tests on a sounding come one after another.
-use Rattle.std.proofs.Common.{◌≡◌, ℕ, ◌+◌, ◌*◌, ◌≤◌, not, eqb, ltb, List, ◌∷◌, ◌++◌, length, drop, Some, None, sym, refl, ap, ◌∙◌}
+use Rattle.std.proofs.Common.{◌≡◌, ℕ, ◌+◌, ◌*◌, ◌≤◌, not, eqb, ltb, List, ◌∷◌, ◌++◌, length, drop, Some, None, sym, ap, ◌∙◌}
 use Rattle.std.proofs.lemmas.Bool.{eq-eqb, le-ltb, cond-false}
 use Rattle.kinds.specs.Kinds.{KindModel}
 use Rattle.sums.specs.Codes.{Codes}
@@ -14,7 +14,7 @@ use Rattle.layout.specs.Tests.{Test, first_refusal}
 use Rattle.layout.proofs.Orders.{passed, stopped}
 use Rattle.reports.specs.Reports.{report_length}
 use Rattle.files.specs.Samples.{samples_in}
-use Rattle.files.specs.Soundings.{record_size, first_record, second_record}
+use Rattle.files.specs.Soundings.{record_size}
 use Rattle.files.specs.Order.{sounder_says, sample_tests, record_tests}
 
 module _ {S : Type 0} (k : KindModel S) (c : Codes S) (kind : FileKind) (room : ℕ) (records : List ℕ) (at size space : ℕ) where

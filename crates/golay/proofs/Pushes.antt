@@ -10,7 +10,7 @@ use Rattle.sums.specs.Sums.{joined, late}
 use Rattle.sums.specs.Codes.{Codes, Pending, silent, reversed, matching, arriving, answer, pushed}
 use Rattle.sums.proofs.Places.{joined_first, joined_second, reversed_inside, reversed_outside, late_before, late_after, late_outside}
 use Rattle.golay.specs.Stages.{blend, doubled, doubled_pending, stage_pending}
-use Rattle.golay.proofs.Blends.{Blend, blends}
+use Rattle.golay.proofs.Blends.{blends}
 
 module _ {S : Type 0} (k : RingOps S) (d n : ℕ) (f : ℕ → S) where
   -- a code that begins at once ends d places before the end

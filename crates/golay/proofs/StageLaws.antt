@@ -1,11 +1,10 @@
 -- A stage over a pair is a pair: complementary again, and made of roots.
-use Rattle.std.proofs.Common.{◌≡◌, ℕ, ◌+◌, ◌-◌, ◌*◌, ◌<◌, ◌≤◌, Some, None, Option, sym, refl, ap, ◌∙◌, subst, ap₂, arith}
+use Rattle.std.proofs.Common.{◌≡◌, ℕ, ◌+◌, ◌-◌, ◌*◌, ◌<◌, ◌≤◌, Some, None, Option, sym, ap, ◌∙◌, subst, ap₂, arith}
 use Rattle.kinds.specs.Samples.{RingOps, PolarOps, RingLaws, ConjugationLaws, RootLaws}
 use Rattle.kinds.specs.Rings.{mul_zero, conj_zero, conj_sub}
-use Rattle.sums.specs.declared.Side.{Side}
 use Rattle.sums.specs.declared.Side.TheVariants.{A, B}
-use Rattle.sums.specs.Sums.{sum_of, total, total_count, times, joined, late}
-use Rattle.sums.specs.Codes.{Codes, Pending, PairLaws, RootSum, autocorrelation, correlations}
+use Rattle.sums.specs.Sums.{sum_of, total, total_count, times, late}
+use Rattle.sums.specs.Codes.{Codes, Pending, PairLaws, RootSum, correlations}
 use Rattle.sums.proofs.Rings.{mul_middle, golay}
 use Rattle.sums.proofs.Places.{joined_second, late_before, late_after, late_outside}
 use Rattle.sums.proofs.Sums.{SumLaws, ring_sums, count_sums, sum_same, sum_add, sum_past, sum_late, sum_twice}

@@ -1,5 +1,5 @@
 -- The ten-entry kernel is a pair, and what a push through it does.
-use Rattle.std.proofs.Common.{◌≡◌, ℕ, zero, suc, ◌+◌, ◌-◌, ◌<◌, ◌≤◌, Bool, true, cond, ◌&&◌, eqb, ltb, sym, refl, ap, ◌∙◌, subst, ap₂, ⊎_elim, arith}
+use Rattle.std.proofs.Common.{◌≡◌, ℕ, zero, suc, ◌+◌, ◌-◌, ◌<◌, ◌≤◌, Bool, true, cond, ◌&&◌, eqb, ltb, refl, ap, ◌∙◌, subst, ap₂, ⊎_elim, arith}
 use Rattle.std.proofs.lemmas.Bool.{cases_lt, and_parts, eqb-true, lt-ltb, cond-true}
 use Rattle.kinds.specs.Samples.{RingOps, PolarOps, RingLaws, ConjugationLaws, RootLaws}
 use Rattle.kinds.specs.Rings.{zero_mul, conj_zero}
@@ -12,7 +12,7 @@ use Rattle.sums.proofs.Sums.{ring_sums, sum_none}
 use Rattle.sums.proofs.Places.{below_outside, reversed_inside, reversed_outside}
 use Rattle.golay.specs.Kernels.{is_minus, signed, ten_entry, ten_codes}
 use Rattle.golay.proofs.Roots.{sign_root}
-use Rattle.golay.proofs.Signs.{Sign, plus, minus, none, pluses, minuses, apart, value, value_of_cond, sub_same, signed_mul, balance, balance_add, signs_correlate}
+use Rattle.golay.proofs.Signs.{Sign, plus, minus, none, pluses, minuses, apart, value_of_cond, sub_same, signed_mul, balance, balance_add, signs_correlate}
 
 abbrev ten_sign : Side → ℕ → Sign
 ten_sign side j = cond (ltb j 10) (cond (is_minus side j) minus plus) none

@@ -1,5 +1,5 @@
 -- The codes of an accepted key.
-use Rattle.std.proofs.Common.{◌≡◌, ℕ, suc, ◌+◌, ◌*◌, ◌^◌, ◌<◌, ◌≤◌, Bool, true, false, cond, eqb, ltb, List, [], ◌∷◌, length, Some, None, Option, sym, refl, ap, ◌∙◌, subst, ap₂, ⊎_elim, arith}
+use Rattle.std.proofs.Common.{◌≡◌, ℕ, suc, ◌+◌, ◌*◌, ◌^◌, ◌<◌, ◌≤◌, Bool, true, false, cond, eqb, ltb, List, [], ◌∷◌, length, Some, None, Option, sym, refl, ap, ◌∙◌, subst, ⊎_elim, arith}
 use mathlib.Core.Path.{fun_ext}
 use Rattle.std.specs.List.{AllByRecursion as All}
 use Rattle.std.proofs.lemmas.Nat.{pow_pos, mul-le}
@@ -12,7 +12,7 @@ use Rattle.sums.specs.declared.Side.{Side}
 use Rattle.sums.specs.declared.Side.TheVariants.{A, B}
 use Rattle.sums.specs.Sums.{late, ones}
 use Rattle.sums.specs.Codes.{Codes, PairLaws, RootSum, silent}
-use Rattle.golay.specs.Stages.{blend, doubled, weight_of, stage_codes}
+use Rattle.golay.specs.Stages.{doubled, weight_of, stage_codes}
 use Rattle.golay.specs.Kernels.{unit_codes, ten_codes}
 use Rattle.golay.proofs.Pushes.{stage_silent}
 use Rattle.golay.proofs.StageLaws.{stage_laws}

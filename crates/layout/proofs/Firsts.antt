@@ -1,5 +1,5 @@
 -- The first refusal, as a place in the table.
-use Rattle.std.proofs.Common.{◌≡◌, ℕ, Bool, true, false, cond, List, [], ◌∷◌, ◌++◌, Some, None, Option, Result, sym, refl, ap, ◌∙◌, subst, arith}
+use Rattle.std.proofs.Common.{◌≡◌, ℕ, Bool, true, false, cond, List, [], ◌∷◌, Some, None, Option, Result, sym, refl, ap, subst, arith}
 use Rattle.std.specs.List.{AllByRecursion as All}
 use Rattle.layout.specs.declared.refusal.FileRefusal.{FileRefusal}
 use Rattle.layout.specs.Tests.{Test, first_refusal, unless, Passes, Comes, Ordered}

@@ -1,5 +1,5 @@
 -- The byte of a key's refusal is a small number.
-use Rattle.std.proofs.Common.{◌≡◌, ℕ, ◌+◌, ◌^◌, ◌<◌, ◌≤◌, Bool, true, false, cond, ltb, leb, List, [], ◌∷◌, length, IfErr, Some, None, Err, Option, sym, subst, arith, lit<}
+use Rattle.std.proofs.Common.{◌≡◌, ℕ, ◌+◌, ◌^◌, ◌<◌, ◌≤◌, Bool, true, false, cond, ltb, leb, List, [], ◌∷◌, length, IfErr, Some, Err, Option, sym, subst, arith, lit<}
 use Rattle.delays.specs.Sets.{is_set}
 use Rattle.keys.specs.declared.stage.KeyStage.{KeyStage}
 use Rattle.keys.specs.declared.refusal.KeyRefusal.TheVariants.{Kernel, StageCount, Delays}

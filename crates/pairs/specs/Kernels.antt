@@ -1,7 +1,6 @@
 -- What a kernel means, by what it holds.
 use Rattle.std.specs.Prelude.{ℕ, ℤ}
 use Rattle.kinds.specs.Kinds.{KindModel}
-use Rattle.sums.specs.declared.Side.{Side}
 use Rattle.sums.specs.declared.Side.TheVariants.{A, B}
 use Rattle.sums.specs.Sums.{below}
 use Rattle.sums.specs.Codes.{Codes, Pending, silent}

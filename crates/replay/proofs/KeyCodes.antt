@@ -5,7 +5,7 @@ use Rattle.sums.specs.declared.Side.{Side}
 use Rattle.sums.specs.Codes.{Codes, Pending, codes}
 use Rattle.sums.specs.Sums.{ones}
 use Rattle.keys.specs.Plans.{Plan}
-use Rattle.keys.specs.Recursion.{key_code, CascadeOfKey}
+use Rattle.keys.specs.Recursion.{CascadeOfKey}
 use Rattle.replay.specs.KeyRuns.{key_span, key_codes}
 
 pub codes_of_key : {S : Type 0} (k : KindModel S) (p : Plan) (c : Codes S) (pending : Pending S) → CascadeOfKey k p c pending → c ≡ key_codes k p

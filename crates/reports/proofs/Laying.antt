@@ -1,7 +1,7 @@
 -- Bytes laid one after another over a buffer.
 use Rattle.std.proofs.Common.{◌≡◌, ℕ, ◌+◌, ◌*◌, ◌<◌, ◌≤◌, List, [], ◌∷◌, ◌++◌, length, get_or, take, drop, ℤ, sym, refl, ap, ◌∙◌, ap₂, append_assoc, add-zero, mul-le-mul_left, mul-zero, mul-suc, arith}
 use Rattle.std.specs.List.{flat_map}
-use Rattle.std.proofs.lemmas.List.{length-append, length-take-le, take-append-drop, take_at, drop_at, drop-drop, take_more, take_all, flat_map_more}
+use Rattle.std.proofs.lemmas.List.{length-append, length-take-le, take-append-drop, take_at, drop_at, drop-drop, take_more, flat_map_more}
 use Rattle.layout.specs.declared.kind.FileKind.{FileKind}
 use Rattle.layout.specs.declared.kind.FileKind.TheVariants.{Hall, Radio}
 use Rattle.layout.specs.Kinds.{width}

@@ -1,5 +1,5 @@
 -- A sounder stands as its run says: at first, and after one more call.
-use Rattle.std.proofs.Common.{◌≡◌, ℕ, ◌+◌, ◌-◌, ◌<◌, ◌≤◌, Bool, true, false, cond, eqb, ltb, List, [], ◌∷◌, ◌++◌, length, Some, None, Option, sym, refl, ap, ◌∙◌, subst, ap₂, arith, length-append}
+use Rattle.std.proofs.Common.{◌≡◌, ℕ, ◌+◌, ◌-◌, ◌≤◌, Bool, true, false, cond, eqb, ltb, List, [], ◌∷◌, ◌++◌, length, Some, None, Option, sym, refl, ap, ◌∙◌, subst, ap₂, arith, length-append}
 use mathlib.Core.Path.{fun_ext}
 use Rattle.std.proofs.lemmas.Bool.{false≢true, ltb-true, lt-ltb, cond-true}
 use Rattle.kinds.specs.Samples.{RingLaws, ConjugationLaws}
@@ -8,15 +8,13 @@ use Rattle.sums.specs.declared.Side.{Side}
 use Rattle.sums.specs.declared.Side.TheVariants.{A, B}
 use Rattle.sums.specs.Codes.{Codes, Pending, arriving, pushed}
 use Rattle.sums.specs.Rooms.{at, correlation, sum_at, left_by}
-use Rattle.calls.specs.declared.phase.Phase.{Phase}
-use Rattle.calls.specs.declared.phase.Phase.TheVariants.{Idle, FirstRecord, SecondRecord, Complete}
+use Rattle.calls.specs.declared.phase.Phase.TheVariants.{Idle}
 use Rattle.calls.specs.declared.refusal.Refusal.{Refusal}
-use Rattle.calls.specs.declared.refusal.Refusal.TheVariants.{WrongPhase}
 use Rattle.calls.specs.declared.call.Call.{Call}
 use Rattle.calls.specs.declared.call.Call.TheVariants.{Open, Sample, Turn, Close, Abandon, Code, Sum, Tap}
 use Rattle.calls.specs.declared.call.Answer.{Answer}
-use Rattle.calls.specs.Phases.{may_sample, may_turn, may_close, may_read}
-use Rattle.calls.specs.Answers.{accepted, require, words_of, tap_of, answer_to, full}
+use Rattle.calls.specs.Phases.{may_sample, may_turn, may_read}
+use Rattle.calls.specs.Answers.{accepted, require, words_of, tap_of, answer_to}
 use Rattle.calls.specs.Runs
 use Rattle.sounder.specs.States.{State, playing, gathered, took_if, moved, says, next}
 use Rattle.sounder.specs.Standing.{Stands}

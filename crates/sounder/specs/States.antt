@@ -1,5 +1,5 @@
 -- What a sounder holds, and what each call makes of it.
-use Rattle.std.specs.Prelude.{◌≡◌, ℕ, ◌+◌, ◌-◌, Bool, false, cond, Some, None, Ok, Err, Option, Result, ◌==◌, nat_lt}
+use Rattle.std.specs.Prelude.{◌≡◌, ℕ, ◌+◌, ◌-◌, false, cond, Some, None, Ok, Err, Option, Result, ◌==◌, nat_lt}
 use Rattle.kinds.specs.Kinds.{KindModel}
 use Rattle.sums.specs.declared.Side.{Side}
 use Rattle.sums.specs.declared.Side.TheVariants.{A, B}

@@ -1,10 +1,10 @@
 -- How far noise in the records moves a sum: at most the energy times the largest magnitude.
-use Rattle.std.proofs.Common.{◌≡◌, ℕ, zero, suc, ◌+◌, ◌-◌, ◌*◌, ◌%◌, ◌<◌, ◌≤◌, nat_abs, sym, refl, ap, ◌∙◌, subst, ap₂, mod-lt, mul-le-mul_left, arith}
+use Rattle.std.proofs.Common.{◌≡◌, ℕ, zero, suc, ◌+◌, ◌-◌, ◌*◌, ◌%◌, ◌<◌, ◌≤◌, nat_abs, ap, ◌∙◌, mod-lt, mul-le-mul_left, arith}
 use Rattle.kinds.specs.Samples.{RingOps, RingLaws, ConjugationLaws, WordLaws, RootLaws, MagnitudeLaws, PolarOps, WordOps}
 use Rattle.sums.specs.declared.Side.{Side}
 use Rattle.sums.specs.declared.Side.TheVariants.{A, B}
 use Rattle.sums.specs.Codes.{Codes, Pending, PairLaws, RootSum}
-use Rattle.sums.specs.Sums.{total, total_count}
+use Rattle.sums.specs.Sums.{total_count}
 use Rattle.sums.specs.Rooms.{correlation, sum_at}
 use Rattle.kinds.specs.Rings.{add_mul, zero_mul, conj_zero}
 

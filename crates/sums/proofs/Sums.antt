@@ -1,8 +1,8 @@
 -- Sums over the first places of a row.
-use Rattle.std.proofs.Common.{◌≡◌, ℕ, zero, suc, ◌+◌, ◌-◌, ◌*◌, ◌<◌, ◌≤◌, sym, refl, ap, ◌∙◌, ap₂, ⊎_elim, add-zero, add_assoc, add-suc, add_comm, suc-add, zero-add, arith}
+use Rattle.std.proofs.Common.{◌≡◌, ℕ, zero, suc, ◌+◌, ◌-◌, ◌<◌, ◌≤◌, sym, refl, ap, ◌∙◌, ap₂, ⊎_elim, add-zero, add_assoc, add-suc, add_comm, suc-add, zero-add, arith}
 use Rattle.std.proofs.lemmas.Bool.{cases_lt}
 use Rattle.kinds.specs.Samples.{RingOps, RingLaws}
-use Rattle.sums.specs.Sums.{sum_of, total, times}
+use Rattle.sums.specs.Sums.{sum_of}
 
 pub record SumLaws {S : Type 0} (none : S) (add : S → S → S) : Type 0 where
   pub assoc : (x y z : S) → add (add x y) z ≡ add x (add y z)

@@ -1,5 +1,5 @@
 -- Tables of words: new, written, read back.
-use Rattle.std.proofs.Common.{◌≡◌, ℕ, zero, suc, ◌<◌, ◌≤◌, cond, ◌&&◌, eqb, ltb, ◌≢◌, List, length, get_or, set, replicate, ℤ, pos, sym, refl, ap, ◌∙◌, ap₂, ⊎_elim, arith, get_or-set_other, get_or-set_same}
+use Rattle.std.proofs.Common.{◌≡◌, ℕ, zero, suc, ◌<◌, cond, ltb, ◌≢◌, List, length, get_or, set, replicate, ℤ, pos, sym, refl, ap, ◌∙◌, ap₂, ⊎_elim, arith, get_or-set_other, get_or-set_same}
 use mathlib.Core.Path.{fun_ext}
 use Rattle.std.proofs.lemmas.Bool.{cond_both, cond-true, cond-false, cases_eq, eq-eqb, ne_eqb, lt-ltb, and_left, and_from}
 use Rattle.tables.specs.Tables.{words, zeros, written}

@@ -1,9 +1,8 @@
-use Rattle.std.proofs.Common.{◌≡◌, ℕ, List, length, IfOk, Some, None, Option, Result, sym, refl, ap, ◌∙◌, subst, arith}
+use Rattle.std.proofs.Common.{◌≡◌, length, IfOk, Some, Option, sym, ap, ◌∙◌, subst}
 use Rattle.std.proofs.lemmas.Result.{err_from_is_err_and}
-use Rattle.keys.specs.Plans.{Plan, plan_of}
-use Rattle.layout.specs.declared.kind.FileKind.{FileKind}
+use Rattle.keys.specs.Plans.{plan_of}
 use Rattle.layout.specs.declared.refusal.FileRefusal.{FileRefusal}
-use Rattle.layout.specs.Tests.{Test, first_refusal, unless}
+use Rattle.layout.specs.Tests.{first_refusal, unless}
 use Rattle.layout.specs.Fields.{kind_of, plan_in, room_byte_of, room_of, records_of}
 use Rattle.layout.specs.Order.{layout_tests}
 use Rattle.layout.proofs.Orders.{passed, stopped}

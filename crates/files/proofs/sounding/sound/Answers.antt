@@ -1,8 +1,8 @@
-use Rattle.std.proofs.Common.{◌≡◌, ℕ, ◌+◌, ◌-◌, ◌*◌, ◌≤◌, true, List, length, drop, Some, None, sym, refl, ap, ◌∙◌, subst, subst₂, arith}
+use Rattle.std.proofs.Common.{◌≡◌, ℕ, ◌+◌, ◌-◌, ◌*◌, ◌≤◌, length, drop, None, sym, ap, ◌∙◌, subst₂, arith}
 use Rattle.std.proofs.lemmas.Result.{err_from_is_err_and}
 use Rattle.std.specs.List.{range_with_len}
 use Rattle.kinds.specs.Kinds.{KindLaws}
-use Rattle.sums.specs.Codes.{Codes, Pending, PairLaws}
+use Rattle.sums.specs.Codes.{Codes}
 use Rattle.pairs.specs.Pairs.{codes_of}
 use Rattle.calls.specs.declared.phase.Phase.TheVariants.{Idle, Complete}
 use Rattle.calls.specs.declared.call.Call.TheVariants.{Open}

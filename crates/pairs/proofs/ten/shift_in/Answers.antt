@@ -1,4 +1,4 @@
-use Rattle.std.proofs.Common.{◌≡◌, ◌+◌, ◌<◌, sym, ap, ◌∙◌, subst, arith}
+use Rattle.std.proofs.Common.{◌≡◌, ◌+◌, ◌<◌, sym, subst, arith}
 use Rattle.tables.specs.Tables.{words}
 use Rattle.pairs.proofs.Tens.{Shifted, shifted_more, shifted_all}
 use Rattle.pairs.proofs.ten.shift_in.Goals as goal

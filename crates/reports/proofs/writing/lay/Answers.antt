@@ -1,4 +1,4 @@
-use Rattle.std.proofs.Common.{◌≡◌, ℕ, List, ◌++◌, length, take, drop, ap, ◌∙◌, ap₂, arith}
+use Rattle.std.proofs.Common.{ℕ, List, ◌++◌, length, take, drop, ap, ◌∙◌, ap₂, arith}
 use Rattle.std.proofs.lemmas.List.{drop-drop}
 use Rattle.reports.proofs.writing.lay.Goals as goal
 

@@ -1,6 +1,5 @@
-use Rattle.std.proofs.Common.{◌≡◌, ℕ, ◌+◌, ◌*◌, List, ◌++◌, length, drop, refl, ap, ◌∙◌, zero-add, arith}
+use Rattle.std.proofs.Common.{◌≡◌, ℕ, List, ◌++◌, length, drop, refl, ap, ◌∙◌, zero-add, arith}
 use Rattle.std.specs.List.{flat_map}
-use Rattle.layout.specs.Kinds.{width}
 use Rattle.reports.specs.Reports.{laid, report_head, tap_bytes}
 use Rattle.reports.proofs.Laying.{laid_laid, length_taps}
 use Rattle.reports.proofs.writing.write.Goals as goal

@@ -1,4 +1,4 @@
-use Rattle.std.proofs.Common.{ap, ◌∙◌, ap₂}
+use Rattle.std.proofs.Common.{ap, ◌∙◌}
 use Rattle.golay.specs.Stages.{weight_of, stage_codes, stage_pending}
 use Rattle.golay.proofs.Pushes.{stage_silent}
 use Rattle.tables.specs.Lines.{delayed}

@@ -1,12 +1,11 @@
-use Rattle.std.proofs.Common.{◌≡◌, ℕ, ◌+◌, ap, ◌∙◌, subst, ap₂}
+use Rattle.std.proofs.Common.{◌≡◌, ap, ◌∙◌, subst, ap₂}
 use Rattle.sums.specs.declared.Side.TheVariants.{A}
 use Rattle.sums.specs.Codes.{answer, pushed}
 use Rattle.golay.specs.Stages.{weight_of, stage_codes, stage_pending}
 use Rattle.golay.proofs.Pushes.{doubled_pushed, doubled_answer}
 use Rattle.golay.proofs.Weights.{works_from_weight}
-use Rattle.tables.specs.Lines.{latest, delayed}
+use Rattle.tables.specs.Lines.{delayed}
 use Rattle.pairs.specs.Pairs.{codes_of}
-use Rattle.tables.specs.Tables.{words}
 use Rattle.tables.proofs.Lines.{line_moved, line_last}
 use Rattle.pairs.proofs.stage.StagePair.push.Goals as goal
 

@@ -1,4 +1,4 @@
-use Rattle.std.proofs.Common.{◌≡◌, ◌<◌, length, ap, w64, to_z, of_z, rules}
+use Rattle.std.proofs.Common.{◌≡◌, ◌<◌, length, w64, to_z, of_z, rules}
 use Rattle.tables.proofs.Tables.{put_words}
 use Rattle.tables.proofs.table.WordTable.write.Goals as goal
 
