@@ -1,7 +1,7 @@
 -- The test of a list of delays, and what does not depend on their order.
 use Rattle.std.proofs.Common.{◌≡◌, ℕ, ◌≤◌, true, eqb, List, [], ◌∷◌, ◌++◌, length, Decides, refl, ap, ◌∙◌, arith}
 use Rattle.std.specs.List.Sorted.{IsPermutation}
-use Rattle.std.specs.List.{ContainsAt as Has, AllByRecursion as All}
+use Rattle.std.specs.List.{ContainsAt as Has, AllByRecursion}
 use Rattle.std.proofs.ByRecursion.{all_has_itself, all_shuffled, Decides-by_and}
 use Rattle.std.proofs.lemmas.List.Sorted.{IsPermutation-refl, IsPermutation-sym, IsPermutation-trans, IsPermutation-cons, IsPermutation-swap}
 use Rattle.std.proofs.lemmas.Bool.Decides.{Decides-eqb, Decides-by_or}
@@ -24,7 +24,7 @@ decides_contains : (wanted : ℕ) (ds : List ℕ) → Decides (contains wanted d
 decides_contains wanted = Decides-by_or (λ d. eqb d wanted) (λ d. d ≡ wanted) (contains wanted) (λ d. Decides-eqb d wanted) refl (λ _ _. refl)
 
 -- the test on all numbers of a list says whether the other list has each
-decides_all_in : (ws ds : List ℕ) → Decides (all_in ws ds) (All (Has ds) ws)
+decides_all_in : (ws ds : List ℕ) → Decides (all_in ws ds) (AllByRecursion (Has ds) ws)
 decides_all_in ws ds = Decides-by_and (λ w. contains w ds) (Has ds) (λ l. all_in l ds) (λ w. decides_contains w ds) refl (λ _ _. refl) ws
 
 -- the test is true exactly if the delays are the products in some order

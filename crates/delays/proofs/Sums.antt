@@ -1,6 +1,6 @@
 -- The sum and the bounds of delays that pass the test.
 use Rattle.std.proofs.Common.{◌≡◌, ℕ, zero, suc, ◌+◌, ◌*◌, ◌^◌, ◌≤◌, true, List, length, ap, ◌∙◌, arith}
-use Rattle.std.specs.List.{AllByRecursion as All}
+use Rattle.std.specs.List.{AllByRecursion}
 use Rattle.std.proofs.lemmas.Nat.{pow_pos, mul-le}
 use Rattle.std.proofs.ByRecursion.{all_shuffled}
 use Rattle.delays.specs.Sets.{doublings, is_set, folded}
@@ -25,7 +25,7 @@ pub set_sum : (kernel : ℕ) (ds : List ℕ) → 1 ≤ kernel → is_set kernel 
 set_sum kernel ds pos h = any_order (λ d x. x + d) (λ d e x. omega arith) kernel ds kernel pos h ∙ sum_products (length ds) kernel
 
 -- if the last product doubled is at most 256, each product is between 1 and 128
-products_bounds : (n d : ℕ) → 1 ≤ d → d * 2 ^ n ≤ 256 → All (λ d. (1 ≤ d) × (d ≤ 128)) (doublings d n)
+products_bounds : (n d : ℕ) → 1 ≤ d → d * 2 ^ n ≤ 256 → AllByRecursion (λ d. (1 ≤ d) × (d ≤ 128)) (doublings d n)
 products_bounds zero d pos most = tt
 products_bounds (suc n) d pos most =
     let whole : 2 * d * 2 ^ n ≤ 256 = rw product_step most in
@@ -33,6 +33,6 @@ products_bounds (suc n) d pos most =
     ((pos, omega arith), products_bounds n (2 * d) (omega arith) whole)
 
 -- each delay is between 1 and 128 if the span is at most 256
-pub set_bounds : (kernel : ℕ) (ds : List ℕ) → 1 ≤ kernel → kernel * 2 ^ length ds ≤ 256 → is_set kernel ds ≡ true → All (λ d. (1 ≤ d) × (d ≤ 128)) ds
+pub set_bounds : (kernel : ℕ) (ds : List ℕ) → 1 ≤ kernel → kernel * 2 ^ length ds ≤ 256 → is_set kernel ds ≡ true → AllByRecursion (λ d. (1 ≤ d) × (d ≤ 128)) ds
 set_bounds kernel ds pos most h =
     all_shuffled (λ d. (1 ≤ d) × (d ≤ 128)) (doublings kernel (length ds)) ds (set_shuffled kernel ds pos h) (products_bounds (length ds) kernel pos most)

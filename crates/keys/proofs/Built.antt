@@ -1,7 +1,7 @@
 -- The codes of an accepted key.
 use Rattle.std.proofs.Common.{◌≡◌, ℕ, suc, ◌+◌, ◌*◌, ◌^◌, ◌<◌, ◌≤◌, Bool, true, false, cond, eqb, ltb, List, [], ◌∷◌, length, Some, None, Option, sym, refl, ap, ◌∙◌, subst, ⊎_elim, arith}
 use mathlib.Core.Path.{fun_ext}
-use Rattle.std.specs.List.{AllByRecursion as All}
+use Rattle.std.specs.List.{AllByRecursion}
 use Rattle.std.proofs.lemmas.Nat.{pow_pos, mul-le}
 use Rattle.std.proofs.lemmas.List.{length-map}
 use Rattle.std.proofs.lemmas.Bool.{eqb-true, lt-ltb, ltb-true, or_cases, cond-true}
@@ -105,7 +105,7 @@ module _ {S : Type 0} (k : KindModel S) where
   right_code true o x h = (refl, h)
   right_code false o x h = let z : ◌≡◌ {A = ℕ} 0 1 = cc in absurd (omega arith)
 
-  ready : (i : ℕ) (ss : List KeyStage) → All (λ d. (1 ≤ d) × (d ≤ 128)) (delays_of ss) → first_wrong k.polar.count i ss ≡ None → Ready ss
+  ready : (i : ℕ) (ss : List KeyStage) → AllByRecursion (λ d. (1 ≤ d) × (d ≤ 128)) (delays_of ss) → first_wrong k.polar.count i ss ≡ None → Ready ss
   ready i [] h e = tt
   ready i (s ∷ ss) h e =
       let q = right_code (ltb s.code k.polar.count) (first_wrong k.polar.count (i + 1) ss) i e in

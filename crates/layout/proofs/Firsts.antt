@@ -1,6 +1,6 @@
 -- The first refusal, as a place in the table.
 use Rattle.std.proofs.Common.{◌≡◌, ℕ, Bool, true, false, cond, List, [], ◌∷◌, Some, None, Option, Result, sym, refl, ap, subst, arith}
-use Rattle.std.specs.List.{AllByRecursion as All}
+use Rattle.std.specs.List.{AllByRecursion}
 use Rattle.layout.specs.declared.refusal.FileRefusal.{FileRefusal}
 use Rattle.layout.specs.Tests.{Test, first_refusal, unless, Passes, Comes, Ordered}
 
@@ -14,11 +14,11 @@ pub comes : (ts : List Test) (e : FileRefusal) → first_refusal ts ≡ Some e �
 comes [] e h = let z : ◌≡◌ {A = ℕ} 0 1 = cc in absurd (omega arith)
 comes (t ∷ ts) e h = step t.0 t.1 ts e (comes ts e) h
 
-none_step : (b : Bool) (f : FileRefusal) (ts : List Test) → (first_refusal ts ≡ None → All Passes ts) → cond b (Some f) (first_refusal ts) ≡ None → All Passes ((b, f) ∷ ts)
+none_step : (b : Bool) (f : FileRefusal) (ts : List Test) → (first_refusal ts ≡ None → AllByRecursion Passes ts) → cond b (Some f) (first_refusal ts) ≡ None → AllByRecursion Passes ((b, f) ∷ ts)
 none_step true f ts later h = let z : ◌≡◌ {A = ℕ} 0 1 = cc in absurd (omega arith)
 none_step false f ts later h = (refl, later h)
 
-pub all_pass : (ts : List Test) → first_refusal ts ≡ None → All Passes ts
+pub all_pass : (ts : List Test) → first_refusal ts ≡ None → AllByRecursion Passes ts
 all_pass [] h = tt
 all_pass (t ∷ ts) h = none_step t.0 t.1 ts (all_pass ts) h
 

@@ -1,6 +1,6 @@
 -- Tests in their order, and the refusal that they come to.
 use Rattle.std.specs.Prelude.{◌≡◌, ℕ, ◌+◌, Bool, true, false, cond, List, [], ◌∷◌, ◌++◌, Some, None, Ok, Err, Option, Result, MatchResult}
-use Rattle.std.specs.List.{AllByRecursion as All}
+use Rattle.std.specs.List.{AllByRecursion}
 use Rattle.layout.specs.declared.refusal.FileRefusal.{FileRefusal}
 
 -- a test: the condition under which the refusal comes
@@ -34,9 +34,9 @@ pub record Comes (ts : List Test) (e : FileRefusal) : Type 0 where
   pub before : List Test
   pub after : List Test
   pub split : ts ≡ before ++ (true, e) ∷ after
-  pub passed : All Passes before
+  pub passed : AllByRecursion Passes before
 
 -- accepted, and every test is passed; or refused, and the refusal is the first that comes
 abbrev pub Ordered : {X : Type 0} → List Test → Result X FileRefusal → Type 0
-Ordered ts (Ok x) = All Passes ts
+Ordered ts (Ok x) = AllByRecursion Passes ts
 Ordered ts (Err e) = Comes ts e
