@@ -1,3 +1,4 @@
 pub mod Sums
 pub mod Codes
 pub mod Rooms
+pub mod Sides

@@ -8,3 +8,24 @@ pub enum Side {
     A,
     B,
 }
+
+// A number that is no side's.
+#[derive(Clone, Copy, PartialEq, Eq, Debug)]
+pub struct NoSide(pub u8);
+
+// A is 0, B is 1.
+impl TryFrom<u8> for Side {
+    type Error = NoSide;
+
+    ghost use Rattle.sums.specs.Sides.{Decodes};
+
+    ghost try_from_gives = { Decodes };
+
+    fn try_from(number: u8) -> Result<Self, NoSide> {
+        match number {
+            0 => Ok(Side::A),
+            1 => Ok(Side::B),
+            _ => Err(NoSide(number)),
+        }
+    }
+}
