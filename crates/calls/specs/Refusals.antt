@@ -1,5 +1,6 @@
 -- The number, the layer and the place of each refusal of a sounder.
-use Rattle.std.specs.Prelude.{ℕ}
+use Rattle.std.specs.Prelude.{ℕ, List}
+use Rattle.refusals.specs.Texts.{refusal_with}
 use Rattle.calls.specs.Phases.{phase_number}
 use Rattle.calls.specs.declared.refusal.Refusal.{Refusal}
 use Rattle.calls.specs.declared.refusal.Refusal.TheVariants.{RoomLength, WrongPhase, NoSample, Magnitude, RecordFull, RecordNotFull, Index}
@@ -26,3 +27,6 @@ place (Magnitude t) = t
 place (RecordFull t) = t
 place (RecordNotFull t) = t
 place (Index i) = i
+
+abbrev pub refusal_text : Refusal → List ℕ
+refusal_text r = refusal_with (number r) (layer r) (place r)

@@ -1,7 +1,8 @@
-ghost use Rattle.std.specs.Prelude.{◌≡◌};
-ghost use Rattle.calls.specs.Refusals.{number, layer, place};
+ghost use Rattle.std.specs.Prelude.{Some};
 
 use crate::phase::Phase;
+use refusals::Refused;
+use std::fmt;
 
 // Why a call of a sounder is refused. A number that a case holds is its place.
 #[derive(Clone, Copy, PartialEq, Eq, Debug)]
@@ -22,10 +23,16 @@ pub enum Refusal {
     Index(usize),
 }
 
-impl Refusal {
-    pub fn number(self) -> u8
-        ensures { result ≡ number self }
-    {
+impl Refused for Refusal {
+    ghost use Rattle.calls.specs.Refusals.{number, layer, place};
+
+    ghost number = { number };
+
+    ghost layer = { layer };
+
+    ghost place = { place };
+
+    fn number(&self) -> u8 {
         match self {
             Refusal::RoomLength => 5,
             Refusal::WrongPhase(_) => 6,
@@ -38,16 +45,12 @@ impl Refusal {
     }
 
     // A sounder is layer 3.
-    pub fn layer(self) -> u8
-        ensures { result ≡ layer self }
-    {
+    fn layer(&self) -> u8 {
         3
     }
 
-    pub fn place(self) -> usize
-        ensures { result ≡ place self }
-    {
-        match self {
+    fn place(&self) -> usize {
+        match *self {
             Refusal::RoomLength => 0,
             Refusal::WrongPhase(phase) => phase.number() as usize,
             Refusal::NoSample(count) => count,
@@ -56,5 +59,17 @@ impl Refusal {
             Refusal::RecordNotFull(count) => count,
             Refusal::Index(index) => index,
         }
+    }
+}
+
+// As a text: refused N layer M place P.
+impl fmt::Display for Refusal {
+    ghost use Rattle.calls.specs.Refusals.{refusal_text};
+
+    ghost output = { λ refusal. Some (refusal_text refusal) };
+
+    fn fmt<W: fmt::Write>(&self, f: &mut fmt::Formatter<W>) -> fmt::Result {
+        let told = self.told();
+        write!(f, "{told}")
     }
 }

@@ -2,7 +2,7 @@
 use Rattle.std.proofs.Common.{◌≡◌, ℕ, ◌+◌, List, ◌++◌, sym, ap, ◌∙◌, ap₂, append_assoc, add-one}
 use Rattle.kinds.specs.Samples.{WordOps}
 use Rattle.sums.specs.declared.Side.{Side}
-use Rattle.keytext.specs.declared.names.KindName.{KindName}
+use Rattle.kinds.specs.declared.kind_name.KindName.{KindName}
 use Rattle.codes.specs.Lines.{name_of, entry_in, entries_below, line_of}
 
 module _ {S : Type 0} (kind : KindName) (w : WordOps S) (side : Side) (code : ℕ → S) where

@@ -4,7 +4,7 @@ use Rattle.kinds.specs.Kinds.{KindModel}
 use Rattle.sums.specs.declared.Side.{Side}
 use Rattle.keys.specs.Plans.{Plan}
 use Rattle.keys.specs.Recursion.{key_code}
-use Rattle.keytext.specs.declared.names.KindName.{KindName}
+use Rattle.kinds.specs.declared.kind_name.KindName.{KindName}
 use Rattle.codes.specs.Sheets.{sheet_of, key_span, key_sheet}
 
 pub sheet_of_key : {S : Type 0} (kind : KindName) (k : KindModel S) (p : Plan) (span energy : ℕ) (code : Side → ℕ → S) → code ≡ key_code k p → span ≡ key_span k.polar.count p → energy ≡ 2 * span → sheet_of kind k.encoding span energy code ≡ key_sheet kind k p

@@ -3,7 +3,7 @@ use Rattle.std.specs.Prelude.{ℕ, zero, suc, List, [], ◌++◌, codes}
 use Rattle.kinds.specs.Samples.{WordOps}
 use Rattle.sums.specs.declared.Side.{Side}
 use Rattle.sums.specs.declared.Side.TheVariants.{A, B}
-use Rattle.keytext.specs.declared.names.KindName.{KindName}
+use Rattle.kinds.specs.declared.kind_name.KindName.{KindName}
 use Rattle.codes.specs.Texts.{entry_of}
 
 abbrev pub name_of : Side → List ℕ

@@ -6,7 +6,7 @@ use Rattle.sums.specs.declared.Side.{Side}
 use Rattle.sums.specs.declared.Side.TheVariants.{A, B}
 use Rattle.keys.specs.Plans.{Plan, stages_for}
 use Rattle.keys.specs.Recursion.{key_code}
-use Rattle.keytext.specs.declared.names.KindName.{KindName}
+use Rattle.kinds.specs.declared.kind_name.KindName.{KindName}
 use Rattle.codes.specs.Lines.{line_of}
 
 abbrev pub sheet_with : ℕ → ℕ → List ℕ → List ℕ → List ℕ

@@ -1,8 +1,8 @@
 -- The bytes of an entry.
 use Rattle.std.specs.Prelude.{ℕ, List, ◌++◌, ℤ, codes}
 use Rattle.std.specs.Fmt.{signed_decimal}
-use Rattle.keytext.specs.declared.names.KindName.{KindName}
-use Rattle.keytext.specs.declared.names.KindName.TheVariants.{Hall, Radio}
+use Rattle.kinds.specs.declared.kind_name.KindName.{KindName}
+use Rattle.kinds.specs.declared.kind_name.KindName.TheVariants.{Hall, Radio}
 
 abbrev pub one_word : ℤ → List ℕ
 one_word x = codes " " ++ signed_decimal x

@@ -3,8 +3,7 @@ ghost use Rattle.std.specs.Prelude.{◌≡◌, ◌<◌, ◌++◌, IfOk, string_b
 ghost use Rattle.codes.specs.Lines.{name_of, entry_in, line_of};
 
 use crate::text::entry_text;
-use keytext::KindName;
-use kinds::Kind;
+use kinds::{Kind, KindName};
 use pairs::Pair;
 use std::alloc::{AllocError, Global};
 use sums::Side;

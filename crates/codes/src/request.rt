@@ -1,6 +1,7 @@
 // What the arguments ask for.
 use keys::KeyStage;
-use keytext::{KindName, kind_name, number, stage};
+use keytext::{kind_name, number, stage};
+use kinds::KindName;
 use std::{env, io};
 
 #[derive(Drop)]

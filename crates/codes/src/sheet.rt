@@ -5,8 +5,7 @@ ghost use Rattle.keys.specs.Plans.{plan_of};
 
 use crate::line::code_line;
 use keys::Key;
-use keytext::KindName;
-use kinds::Kind;
+use kinds::{Kind, KindName};
 use pairs::Pair;
 use std::alloc::{AllocError, Global};
 use sums::Side;

@@ -2,7 +2,7 @@
 ghost use Rattle.std.specs.Prelude.{◌≡◌, IfOk, string_bytes};
 ghost use Rattle.codes.specs.Texts.{one_word, two_words, entry_of};
 
-use keytext::KindName;
+use kinds::KindName;
 use std::alloc::{AllocError, Global};
 
 fn one_word(heap: Global, first: i64) -> Result<String, AllocError>

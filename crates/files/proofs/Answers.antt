@@ -7,7 +7,7 @@ use Rattle.kinds.specs.Kinds.{KindModel}
 use Rattle.sums.specs.Codes.{Codes}
 use Rattle.calls.specs.declared.call.Call.TheVariants.{Tap}
 use Rattle.calls.specs.Runs.{answer_after}
-use Rattle.layout.specs.declared.kind.FileKind.{FileKind}
+use Rattle.kinds.specs.declared.kind_name.KindName.{KindName}
 use Rattle.layout.specs.declared.refusal.FileRefusal.{FileRefusal}
 use Rattle.layout.specs.Tests.{first_refusal, unless}
 use Rattle.reports.specs.Reports.{report_length, buffer_after, tap_tests, report_tests}
@@ -25,11 +25,11 @@ module _ (o : Option FileRefusal) where
 pub taps_part : (room : ℕ) (all ts : List (ℤ × ℤ)) → take room all ≡ ts → take (room - 0) all ≡ ts
 taps_part room all ts e = ap (λ n. take n all) (sub-zero room) ∙ e
 
-pub taps_count : {S : Type 0} (k : KindModel S) (c : Codes S) (kind : FileKind) (room : ℕ) (records : List ℕ) → length (taps k c kind room records) ≡ room
+pub taps_count : {S : Type 0} (k : KindModel S) (c : Codes S) (kind : KindName) (room : ℕ) (records : List ℕ) → length (taps k c kind room records) ≡ room
 taps_count k c kind room records = length-map-range_with_len (λ i. words_in (answer_after k c (sounded k c kind room records) (Tap i))) 0 room
 
 -- of a room length that is allowed and a buffer that is long enough, the taps alone decide
-pub taps_decide : (kind : FileKind) (ts : List (ℤ × ℤ)) (room size space : ℕ) → length ts ≡ room → 1 ≤ room → room ≤ 256 → report_length kind room ≤ space
+pub taps_decide : (kind : KindName) (ts : List (ℤ × ℤ)) (room size space : ℕ) → length ts ≡ room → 1 ≤ room → room ≤ 256 → report_length kind room ≤ space
     → first_refusal (report_tests kind ts size space) ≡ first_refusal (tap_tests size ts)
 taps_decide kind ts room size space e least most placed =
     cond-false _ _ _ (ap not (and_from (leb 1 (length ts)) (leb (length ts) 256) (le-leb 1 (length ts) (omega arith)) (le-leb (length ts) 256 (omega arith))))

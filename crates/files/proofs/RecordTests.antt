@@ -6,10 +6,10 @@ use Rattle.sums.specs.Codes.{Codes}
 use Rattle.calls.specs.declared.call.Call.TheVariants.{Open}
 use Rattle.calls.specs.Answers.{full}
 use Rattle.calls.specs.Runs.{new, answer_after}
-use Rattle.layout.specs.declared.kind.FileKind.{FileKind}
+use Rattle.kinds.specs.declared.kind_name.KindName.{KindName}
 use Rattle.layout.specs.declared.refusal.FileRefusal.{FileRefusal}
 use Rattle.layout.specs.declared.refusal.FileRefusal.TheVariants.{Length, Buffer}
-use Rattle.layout.specs.Kinds.{width}
+use Rattle.kinds.specs.KindNames.{width}
 use Rattle.layout.specs.Tests.{Test, first_refusal}
 use Rattle.layout.proofs.Orders.{passed, stopped}
 use Rattle.reports.specs.Reports.{report_length}
@@ -17,7 +17,7 @@ use Rattle.files.specs.Samples.{samples_in}
 use Rattle.files.specs.Soundings.{record_size}
 use Rattle.files.specs.Order.{sounder_says, sample_tests, record_tests}
 
-module _ {S : Type 0} (k : KindModel S) (c : Codes S) (kind : FileKind) (room : ℕ) (records : List ℕ) (at size space : ℕ) where
+module _ {S : Type 0} (k : KindModel S) (c : Codes S) (kind : KindName) (room : ℕ) (records : List ℕ) (at size space : ℕ) where
   abbrev open_group : List Test
   open_group = sounder_says at (answer_after k c new (Open room))
 

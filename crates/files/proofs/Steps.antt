@@ -16,8 +16,8 @@ use Rattle.calls.specs.Answers.{accepted, require, answer_to, sample_answer, ful
 use Rattle.calls.specs.Runs.{new, answer_after}
 use Rattle.sounder.specs.States.{State, says, next, moved, took_if}
 use Rattle.layout.specs.declared.refusal.FileRefusal.{FileRefusal}
-use Rattle.layout.specs.declared.kind.FileKind.{FileKind}
-use Rattle.layout.specs.Kinds.{width}
+use Rattle.kinds.specs.declared.kind_name.KindName.{KindName}
+use Rattle.kinds.specs.KindNames.{width}
 use Rattle.layout.specs.Tests.{first_refusal}
 use Rattle.files.specs.Order.{sounder_says, sample_test}
 use Rattle.files.specs.Soundings.{sample_calls, record_calls}
@@ -79,7 +79,7 @@ module _ {S : Type 0} (k : KindModel S) where
     took_next l a b h = subst (Took (i + 1) s) (sym (next_is (Sample a b) t h)) (taken (k.encoding.sample a b) (ap accepted (sym (sample_says l a b)) ∙ h))
 
     -- the answer to a sample, as the test on it
-    pub test_is : (kind : FileKind) (from byte : ℕ) (x : ℤ × ℤ) (r : Answer) (a b : ℤ) → i < n → x ≡ (a, b) → byte ≡ from + width kind * i → r ≡ says k (Sample a b) t → first_refusal (sounder_says byte r) ≡ first_refusal (sample_test k s.codes kind from i x)
+    pub test_is : (kind : KindName) (from byte : ℕ) (x : ℤ × ℤ) (r : Answer) (a b : ℤ) → i < n → x ≡ (a, b) → byte ≡ from + width kind * i → r ≡ says k (Sample a b) t → first_refusal (sounder_says byte r) ≡ first_refusal (sample_test k s.codes kind from i x)
     test_is kind from byte x r a b l is e h =
         ap (λ (y : ℕ). first_refusal (sounder_says y r)) e
         ∙ ap (λ (y : Answer). first_refusal (sounder_says (from + width kind * i) y)) (h ∙ sample_says l a b)

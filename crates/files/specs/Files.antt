@@ -7,8 +7,8 @@ use Rattle.kinds.specs.Halls.{hall_ring, hall_words, hall_polar}
 use Rattle.kinds.specs.Radios.{radio_ring, radio_words, radio_polar}
 use Rattle.sums.specs.Codes.{Codes}
 use Rattle.keys.specs.Plans.{Plan}
-use Rattle.layout.specs.declared.kind.FileKind.{FileKind}
-use Rattle.layout.specs.declared.kind.FileKind.TheVariants.{Hall, Radio}
+use Rattle.kinds.specs.declared.kind_name.KindName.{KindName}
+use Rattle.kinds.specs.declared.kind_name.KindName.TheVariants.{Hall, Radio}
 use Rattle.layout.specs.declared.refusal.FileRefusal.{FileRefusal}
 use Rattle.layout.specs.declared.refusal.FileRefusal.TheVariants.{Length}
 use Rattle.layout.specs.declared.sounding.Sounding.{Sounding}
@@ -39,15 +39,15 @@ module _ {S : Type 0} (k : KindModel S) (c : Codes S) (s : Sounding) where
 
 -- a sounding of a kind over the pair of the key p, at a room length, with the bytes of its records
 module _ (p : Plan) (room : ℕ) (records : List ℕ) where
-  abbrev pub tests_for : FileKind → ℕ → ℕ → ℕ → List Test
+  abbrev pub tests_for : KindName → ℕ → ℕ → ℕ → List Test
   tests_for Hall at size space = sounding_tests hall_kind (key_codes hall_kind p) Hall room records at size space
   tests_for Radio at size space = sounding_tests radio_kind (key_codes radio_kind p) Radio room records at size space
 
-  abbrev pub report_for : FileKind → List ℕ
+  abbrev pub report_for : KindName → List ℕ
   report_for Hall = report_bytes Hall room (taps hall_kind (key_codes hall_kind p) Hall room records)
   report_for Radio = report_bytes Radio room (taps radio_kind (key_codes radio_kind p) Radio room records)
 
-  abbrev pub LawsFor : FileKind → Type 0
+  abbrev pub LawsFor : KindName → Type 0
   LawsFor Hall = TapsLaws hall_kind (key_codes hall_kind p) Hall room records
   LawsFor Radio = TapsLaws radio_kind (key_codes radio_kind p) Radio room records
 

@@ -10,8 +10,8 @@ use Rattle.calls.specs.declared.call.Answer.{Answer}
 use Rattle.calls.specs.declared.call.Answer.TheVariants.{Done, Words, Refused}
 use Rattle.calls.specs.Answers.{full}
 use Rattle.calls.specs.Runs.{Run, new, after, answer_after, SamplesNear}
-use Rattle.layout.specs.declared.kind.FileKind.{FileKind}
-use Rattle.layout.specs.Kinds.{width}
+use Rattle.kinds.specs.declared.kind_name.KindName.{KindName}
+use Rattle.kinds.specs.KindNames.{width}
 use Rattle.files.specs.Samples.{samples_in}
 
 -- the samples of a record, one call each
@@ -39,7 +39,7 @@ module _ {S : Type 0} (k : KindModel S) (c : Codes S) where
   run_by h (x ∷ xs) = run_by (after h x (answer_after k c h x)) xs
 
   -- a sounding of a kind, at a room length, with the bytes of its two records
-  module _ (kind : FileKind) (room : ℕ) (records : List ℕ) where
+  module _ (kind : KindName) (room : ℕ) (records : List ℕ) where
     -- how many bytes a full record has
     abbrev pub record_size : ℕ
     record_size = width kind * full k c room
@@ -59,7 +59,7 @@ module _ {S : Type 0} (k : KindModel S) (c : Codes S) where
     taps = map (λ i. words_in (answer_after k c sounded (Tap i))) (range_with_len 0 room)
 
 -- what holds of the taps of a sounding that is accepted
-pub record TapsLaws {S : Type 0} (k : KindModel S) (c : Codes S) (kind : FileKind) (room : ℕ) (records : List ℕ) : Type 0 where
+pub record TapsLaws {S : Type 0} (k : KindModel S) (c : Codes S) (kind : KindName) (room : ℕ) (records : List ℕ) : Type 0 where
   -- each is an answer of the sounder, and none is refused
   pub answered : (i : ℕ) → i < room → answer_after k c (sounded k c kind room records) (Tap i) ≡ Words (slice_index_or (taps k c kind room records) i (pos 0, pos 0)).0 (slice_index_or (taps k c kind room records) i (pos 0, pos 0)).1
   -- for every room h and every E, both up to 2 ^ 40: where each sample of the records lies within E of the room's answer to the code then playing, each word of a tap lies within E of that word of the room's tap

@@ -7,7 +7,7 @@ use Rattle.calls.specs.Phases.{may_sample}
 use Rattle.calls.specs.Answers.{full}
 use Rattle.calls.specs.declared.call.Call.{Call}
 use Rattle.sounder.specs.States.{State, next}
-use Rattle.layout.specs.declared.kind.FileKind.{FileKind}
+use Rattle.kinds.specs.declared.kind_name.KindName.{KindName}
 use Rattle.reports.specs.Reports.{report_length}
 use Rattle.files.specs.Soundings.{taps, TapsLaws}
 
@@ -36,7 +36,7 @@ pub record Took {S : Type 0} (n : ℕ) (s t : State S) : Type 0 where
   pub counted : t.count ≡ n
 
 -- what comes of a sounding that is accepted: the taps, as many as the room length says, and a buffer that has place for their report
-pub record Sounded {S : Type 0} (k : KindModel S) (c : Codes S) (kind : FileKind) (room : ℕ) (records : List ℕ) (space : ℕ) (t : List (ℤ × ℤ)) : Type 0 where
+pub record Sounded {S : Type 0} (k : KindModel S) (c : Codes S) (kind : KindName) (room : ℕ) (records : List ℕ) (space : ℕ) (t : List (ℤ × ℤ)) : Type 0 where
   pub taps_are : take room t ≡ taps k c kind room records
   pub room_least : 1 ≤ room
   pub room_most : room ≤ 256

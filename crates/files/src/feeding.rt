@@ -2,7 +2,7 @@
 ghost use Rattle.std.specs.Prelude.{◌≡◌, ◌+◌, ◌*◌, ◌^◌, ◌<◌, ◌≤◌, length, OnOk};
 ghost use Rattle.calls.specs.Answers.{done};
 ghost use Rattle.sounder.specs.States.{state_of, Does};
-ghost use Rattle.layout.specs.Kinds.{width};
+ghost use Rattle.kinds.specs.KindNames.{width};
 ghost use Rattle.layout.specs.Tests.{first_refusal, unless};
 ghost use Rattle.files.specs.Samples.{samples_in};
 ghost use Rattle.files.specs.Soundings.{sample_calls};
@@ -11,7 +11,8 @@ ghost use Rattle.files.specs.States.{led, Ready, Took};
 
 use crate::samples::sample_at;
 use calls::{Call, Refusal};
-use layout::{FileKind, FileRefusal};
+use kinds::KindName;
+use layout::FileRefusal;
 use pairs::Pair;
 use sounder::Sounder;
 
@@ -35,7 +36,7 @@ fn give<P: Pair>(sounder: &mut Sounder<P>, words: (i64, i64)) -> Result<(), Refu
 // Gives the first `count` samples of a record, in order, to a sounder that takes one; the record is `bytes` and begins at byte `from` of the file.
 pub(crate) fn feed<P: Pair>(
     sounder: &mut Sounder<P>,
-    kind: FileKind,
+    kind: KindName,
     bytes: &[u8],
     count: usize,
     from: usize,

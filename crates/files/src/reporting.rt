@@ -9,10 +9,10 @@ ghost use Rattle.files.specs.Files.{tests_over, report_over, LawsOver, tests_for
 
 use crate::sounding::sound;
 use keys::Key;
-use kinds::Kind;
+use kinds::{Kind, KindName};
 use kinds::hall::Hall;
 use kinds::radio::Radio;
-use layout::{FileKind, FileRefusal, Sounding, parse};
+use layout::{FileRefusal, Sounding, parse};
 use pairs::Pair;
 use reports::write_report;
 
@@ -55,8 +55,8 @@ fn report_by_kind(
     ensures { Reports (tests_for (plan_of key.now) sounding.entry.room sounding.entry.records.now sounding.entry.kind sounding.entry.room_byte size (length out.old)) (report_for (plan_of key.now) sounding.entry.room sounding.entry.records.now sounding.entry.kind) (LawsFor (plan_of key.now) sounding.entry.room sounding.entry.records.now sounding.entry.kind) result out.old out.new }
 {
     match sounding.kind {
-        FileKind::Hall => report_as::<Hall>(key, sounding, size, out),
-        FileKind::Radio => report_as::<Radio>(key, sounding, size, out),
+        KindName::Hall => report_as::<Hall>(key, sounding, size, out),
+        KindName::Radio => report_as::<Radio>(key, sounding, size, out),
     }
 }
 

@@ -2,7 +2,7 @@
 ghost use Rattle.std.specs.Prelude.{◌≡◌, ◌+◌, ◌*◌, ◌^◌, ◌<◌, ◌≤◌, ◌++◌, length, drop, OnOk};
 ghost use Rattle.pairs.specs.Pairs.{codes_of};
 ghost use Rattle.sounder.specs.States.{state_of};
-ghost use Rattle.layout.specs.Kinds.{width};
+ghost use Rattle.kinds.specs.KindNames.{width};
 ghost use Rattle.layout.specs.Tests.{first_refusal, unless, Decided};
 ghost use Rattle.files.specs.Samples.{samples_in};
 ghost use Rattle.files.specs.Soundings.{record_calls};
@@ -12,7 +12,8 @@ ghost use Rattle.files.specs.States.{led, Begun, Sounded};
 use crate::feeding::{at_byte, feed};
 use crate::taps::gather;
 use calls::Phase;
-use layout::{FileKind, FileRefusal, Sounding};
+use kinds::KindName;
+use layout::{FileRefusal, Sounding};
 use pairs::Pair;
 use reports::report_length;
 use sounder::Sounder;
@@ -28,7 +29,7 @@ fn behind_first(records: &[u8], size: usize) -> &[u8]
 // Gives both records, of `count` samples each, to a sounder whose first record is begun; they begin at byte `from` of the file.
 fn take_records<P: Pair>(
     sounder: &mut Sounder<P>,
-    kind: FileKind,
+    kind: KindName,
     records: &[u8],
     count: usize,
     from: usize,

@@ -5,6 +5,7 @@ ghost use Rattle.std.specs.Prelude.{◌≡◌, IfOk, string_bytes};
 ghost use Rattle.filetext.specs.Lines.{line_of, line_with};
 
 use layout::FileRefusal;
+use refusals::Refused;
 use std::alloc::{AllocError, Global};
 
 fn line_with(

@@ -1,5 +1,6 @@
 -- The number, the layer and the place of each refusal of a key.
-use Rattle.std.specs.Prelude.{ℕ}
+use Rattle.std.specs.Prelude.{ℕ, List}
+use Rattle.refusals.specs.Texts.{refusal_with}
 use Rattle.keys.specs.declared.refusal.KeyRefusal.{KeyRefusal}
 use Rattle.keys.specs.declared.refusal.KeyRefusal.TheVariants.{Kernel, StageCount, Delays, WeightCode}
 
@@ -19,3 +20,6 @@ place Kernel = 0
 place StageCount = 0
 place Delays = 0
 place (WeightCode stage) = stage
+
+abbrev pub refusal_text : KeyRefusal → List ℕ
+refusal_text r = refusal_with (number r) (layer r) (place r)

@@ -1,5 +1,7 @@
-ghost use Rattle.std.specs.Prelude.{◌≡◌};
-ghost use Rattle.keys.specs.Refusals.{number, layer, place};
+ghost use Rattle.std.specs.Prelude.{Some};
+
+use refusals::Refused;
+use std::fmt;
 
 // Why a key is refused.
 #[derive(Clone, Copy, PartialEq, Eq, Debug)]
@@ -14,10 +16,16 @@ pub enum KeyRefusal {
     WeightCode { stage: usize },
 }
 
-impl KeyRefusal {
-    pub fn number(&self) -> u8
-        ensures { result ≡ number self.now }
-    {
+impl Refused for KeyRefusal {
+    ghost use Rattle.keys.specs.Refusals.{number, layer, place};
+
+    ghost number = { number };
+
+    ghost layer = { layer };
+
+    ghost place = { place };
+
+    fn number(&self) -> u8 {
         match self {
             KeyRefusal::Kernel => 1,
             KeyRefusal::StageCount => 2,
@@ -27,19 +35,27 @@ impl KeyRefusal {
     }
 
     // A key is layer 2.
-    pub fn layer(&self) -> u8
-        ensures { result ≡ layer self.now }
-    {
+    fn layer(&self) -> u8 {
         2
     }
 
     // The first stage with a wrong code, counted from 0; else 0.
-    pub fn place(&self) -> usize
-        ensures { result ≡ place self.now }
-    {
+    fn place(&self) -> usize {
         match self {
             KeyRefusal::WeightCode { stage } => *stage,
             _ => 0,
         }
+    }
+}
+
+// As a text: refused N layer M place P.
+impl fmt::Display for KeyRefusal {
+    ghost use Rattle.keys.specs.Refusals.{refusal_text};
+
+    ghost output = { λ refusal. Some (refusal_text refusal) };
+
+    fn fmt<W: fmt::Write>(&self, f: &mut fmt::Formatter<W>) -> fmt::Result {
+        let told = self.told();
+        write!(f, "{told}")
     }
 }

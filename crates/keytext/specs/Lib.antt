@@ -1,4 +1,3 @@
-pub mod Names
 pub mod Steps
 pub mod Numbers
 pub mod Stages

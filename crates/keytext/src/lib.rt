@@ -5,6 +5,6 @@ mod names;
 mod numbers;
 mod stages;
 
-pub use names::{KindName, kind_name};
+pub use names::kind_name;
 pub use numbers::number;
 pub use stages::stage;

@@ -12,3 +12,4 @@ pub mod Roots
 pub mod Rings
 pub mod Encodings
 pub mod RadiosLemmas
+pub mod KindNames

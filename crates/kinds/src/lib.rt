@@ -6,9 +6,12 @@ ghost use Rattle.kinds.specs.Samples.{RingOps, WordOps, PolarOps, RingLaws, Conj
 
 pub mod hall;
 pub mod hall_kind;
+mod kind_name;
 pub mod radio;
 pub mod radio_kind;
 mod word;
+
+pub use kind_name::{KindName, UnknownKind};
 
 // A kind of samples. All arithmetic is on signed 64-bit words modulo 2^64, so it has an answer for every sample.
 pub trait Kind: Copy {

@@ -6,7 +6,7 @@ use Rattle.keys.specs.Plans.{plan}
 use Rattle.keys.specs.declared.stage.KeyStage.{KeyStage}
 use Rattle.layout.specs.declared.refusal.FileRefusal.{FileRefusal}
 use Rattle.layout.specs.declared.head.Head.{Head}
-use Rattle.layout.specs.Kinds.{roots}
+use Rattle.kinds.specs.KindNames.{roots}
 use Rattle.layout.specs.Tests.{Test, first_refusal}
 use Rattle.layout.specs.Fields.{byte_at, two_bytes, kind_of, kernel_of, count_of, stages_in, stages_of, plan_in, room_of, record_byte, records_of}
 use Rattle.layout.specs.Order.{head_tests, key_says, field_tests, layout_tests}

@@ -3,9 +3,9 @@ use Rattle.std.specs.Prelude.{ℕ, ◌+◌, ◌*◌, cond, List, map, drop, ◌=
 use Rattle.std.specs.List.{range_with_len}
 use Rattle.keys.specs.declared.stage.KeyStage.{KeyStage}
 use Rattle.keys.specs.Plans.{Plan, plan}
-use Rattle.layout.specs.declared.kind.FileKind.{FileKind}
-use Rattle.layout.specs.declared.kind.FileKind.TheVariants.{Hall, Radio}
-use Rattle.layout.specs.Kinds.{roots}
+use Rattle.kinds.specs.declared.kind_name.KindName.{KindName}
+use Rattle.kinds.specs.declared.kind_name.KindName.TheVariants.{Hall, Radio}
+use Rattle.kinds.specs.KindNames.{roots}
 
 -- byte i, 0 past the end
 abbrev pub byte_at : List ℕ → ℕ → ℕ
@@ -16,7 +16,7 @@ abbrev pub two_bytes : List ℕ → ℕ → ℕ
 two_bytes bytes i = byte_at bytes i * 256 + byte_at bytes (i + 1)
 
 -- byte 0 is the version, bytes 1 and 2 are the length of all that follows them, then come the kind, the kernel and the number of stages
-abbrev pub kind_of : List ℕ → FileKind
+abbrev pub kind_of : List ℕ → KindName
 kind_of file = cond (byte_at file 3 == 1) Hall Radio
 
 abbrev pub kernel_of : List ℕ → ℕ

@@ -1,4 +1,3 @@
-pub mod Kinds
 pub mod Refusals
 pub mod Tests
 pub mod Fields

@@ -4,7 +4,7 @@ use Rattle.keys.specs.declared.refusal.KeyRefusal.{KeyRefusal}
 use Rattle.keys.specs.declared.refusal.KeyRefusal.TheVariants.{Kernel, StageCount, Delays, WeightCode}
 use Rattle.keys.specs.Judged.{Verdict, count_judged, judged}
 use Rattle.layout.specs.declared.refusal.FileRefusal.TheVariants.{Key, Length, Version, Kind}
-use Rattle.layout.specs.Kinds.{roots}
+use Rattle.kinds.specs.KindNames.{roots}
 use Rattle.layout.specs.Tests.{Test}
 use Rattle.layout.specs.Fields.{byte_at, two_bytes, kind_of, kernel_of, count_of, stages_of}
 

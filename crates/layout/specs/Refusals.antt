@@ -1,5 +1,6 @@
 -- The number, the layer, the place and the byte of each refusal of a file.
-use Rattle.std.specs.Prelude.{ℕ}
+use Rattle.std.specs.Prelude.{ℕ, List, ◌++◌, codes, decimal}
+use Rattle.refusals.specs.Texts.{refusal_with}
 use Rattle.keys.specs.Refusals as of-key
 use Rattle.calls.specs.Refusals as of-sounder
 use Rattle.layout.specs.declared.refusal.FileRefusal.{FileRefusal}
@@ -43,3 +44,7 @@ place Version = 0
 place Kind = 3
 place (Buffer b) = b
 place (Tap index b) = index
+
+-- number, layer, place and byte, in decimal
+abbrev pub refusal_text : FileRefusal → List ℕ
+refusal_text r = refusal_with (number r) (layer r) (place r) ++ (codes " byte " ++ decimal (byte r))

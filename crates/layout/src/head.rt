@@ -4,12 +4,12 @@ ghost use Rattle.layout.specs.Tests.{Decided};
 ghost use Rattle.layout.specs.Order.{head_tests};
 ghost use Rattle.layout.specs.Read.{HeadRead};
 
-use crate::kind::FileKind;
 use crate::refusal::FileRefusal;
+use kinds::KindName;
 
 #[derive(Clone, Copy)]
 pub(crate) struct Head<'a> {
-    pub kind: FileKind,
+    pub kind: KindName,
     pub kernel: u8,
     pub count: usize,
     // what follows the number of stages
@@ -49,7 +49,7 @@ pub(crate) fn take_head(file: &[u8]) -> Result<Head<'_>, FileRefusal>
     let [kind, rest @ ..] = rest else {
         return Err(FileRefusal::Length { byte: 3 });
     };
-    let Some(kind) = FileKind::from_byte(*kind) else {
+    let Ok(kind) = KindName::try_from(*kind) else {
         return Err(FileRefusal::Kind);
     };
     let [kernel, rest @ ..] = rest else {

@@ -2,13 +2,13 @@
 ghost use Rattle.std.specs.Prelude.{◌≡◌, ◌^◌, ◌<◌, ◌≤◌, length, IfErr, MatchResult};
 ghost use Rattle.keys.specs.Judged.{count_judged, judged};
 ghost use Rattle.keys.specs.Plans.{plan, plan_of};
-ghost use Rattle.layout.specs.Kinds.{roots};
+ghost use Rattle.kinds.specs.KindNames.{roots};
 ghost use Rattle.layout.specs.Tests.{first_refusal, unless};
 ghost use Rattle.layout.specs.Order.{key_byte, key_says};
 
-use crate::kind::FileKind;
 use crate::refusal::FileRefusal;
 use keys::{Key, KeyRefusal, KeyStage, check_stage_count};
+use kinds::KindName;
 use kinds::hall::Hall;
 use kinds::radio::Radio;
 
@@ -49,7 +49,7 @@ pub(crate) fn check_count(kernel: u8, count: usize) -> Result<(), FileRefusal>
 // Fills a key for the kind that the file names.
 fn fill_for(
     key: &mut Key,
-    kind: FileKind,
+    kind: KindName,
     kernel: u8,
     stages: &[KeyStage],
 ) -> Result<(), KeyRefusal>
@@ -57,15 +57,15 @@ fn fill_for(
     ensures key { MatchResult result (λ _. plan_of key.new ≡ plan kernel (roots kind) stages.now) (λ _. key.new ≡ key.old) }
 {
     match kind {
-        FileKind::Hall => key.fill::<Hall>(kernel, stages),
-        FileKind::Radio => key.fill::<Radio>(kernel, stages),
+        KindName::Hall => key.fill::<Hall>(kernel, stages),
+        KindName::Radio => key.fill::<Radio>(kernel, stages),
     }
 }
 
 // Fills the key of a file, or refuses and leaves it as it is.
 pub(crate) fn fill_in(
     key: &mut Key,
-    kind: FileKind,
+    kind: KindName,
     kernel: u8,
     stages: &[KeyStage],
 ) -> Result<(), FileRefusal>

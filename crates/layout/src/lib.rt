@@ -4,12 +4,10 @@
 mod fields;
 mod head;
 mod key;
-mod kind;
 mod parsing;
 mod refusal;
 mod sounding;
 
-pub use kind::FileKind;
 pub use parsing::parse;
 pub use refusal::FileRefusal;
 pub use sounding::Sounding;

@@ -1,11 +1,12 @@
-ghost use Rattle.std.specs.Prelude.{◌≡◌};
-ghost use Rattle.layout.specs.Refusals.{number, layer, place, byte};
+ghost use Rattle.std.specs.Prelude.{◌≡◌, Some};
 
 use calls::Refusal;
 use keys::KeyRefusal;
+use refusals::Refused;
+use std::fmt;
 
 // Why a sounding file is refused.
-#[derive(Clone, Copy)]
+#[derive(Clone, Copy, PartialEq, Eq, Debug)]
 pub enum FileRefusal {
     // the key of the file is refused; the byte where it is wrong
     Key { refusal: KeyRefusal, byte: usize },
@@ -24,42 +25,7 @@ pub enum FileRefusal {
 }
 
 impl FileRefusal {
-    pub fn number(self) -> u8
-        ensures { result ≡ number self }
-    {
-        match self {
-            FileRefusal::Key { refusal, .. } => refusal.number(),
-            FileRefusal::Sounder { refusal, .. } => refusal.number(),
-            FileRefusal::Length { .. } => 12,
-            FileRefusal::Version => 13,
-            FileRefusal::Kind => 14,
-            FileRefusal::Buffer { .. } => 15,
-            FileRefusal::Tap { .. } => 16,
-        }
-    }
-
-    // A file is layer 1; a refusal of its key or of the sounder keeps its own layer.
-    pub fn layer(self) -> u8
-        ensures { result ≡ layer self }
-    {
-        match self {
-            FileRefusal::Key { refusal, .. } => refusal.layer(),
-            FileRefusal::Sounder { refusal, .. } => refusal.layer(),
-            _ => 1,
-        }
-    }
-
-    // The byte, or the index of a tap; a refusal of the key or of the sounder keeps its own place.
-    pub fn place(self) -> usize
-        ensures { result ≡ place self }
-    {
-        match self {
-            FileRefusal::Key { refusal, .. } => refusal.place(),
-            FileRefusal::Sounder { refusal, .. } => refusal.place(),
-            FileRefusal::Tap { index, .. } => index,
-            _ => self.byte(),
-        }
-    }
+    ghost use Rattle.layout.specs.Refusals.{byte};
 
     // Where in the file, counted from 0.
     pub fn byte(self) -> usize
@@ -74,5 +40,58 @@ impl FileRefusal {
             FileRefusal::Buffer { byte } => byte,
             FileRefusal::Tap { byte, .. } => byte,
         }
+    }
+}
+
+impl Refused for FileRefusal {
+    ghost use Rattle.layout.specs.Refusals.{number, layer, place};
+
+    ghost number = { number };
+
+    ghost layer = { layer };
+
+    ghost place = { place };
+
+    fn number(&self) -> u8 {
+        match *self {
+            FileRefusal::Key { refusal, .. } => refusal.number(),
+            FileRefusal::Sounder { refusal, .. } => refusal.number(),
+            FileRefusal::Length { .. } => 12,
+            FileRefusal::Version => 13,
+            FileRefusal::Kind => 14,
+            FileRefusal::Buffer { .. } => 15,
+            FileRefusal::Tap { .. } => 16,
+        }
+    }
+
+    // A file is layer 1; a refusal of its key or of the sounder keeps its own layer.
+    fn layer(&self) -> u8 {
+        match *self {
+            FileRefusal::Key { refusal, .. } => refusal.layer(),
+            FileRefusal::Sounder { refusal, .. } => refusal.layer(),
+            _ => 1,
+        }
+    }
+
+    // The byte, or the index of a tap; a refusal of the key or of the sounder keeps its own place.
+    fn place(&self) -> usize {
+        match *self {
+            FileRefusal::Key { refusal, .. } => refusal.place(),
+            FileRefusal::Sounder { refusal, .. } => refusal.place(),
+            FileRefusal::Tap { index, .. } => index,
+            _ => self.byte(),
+        }
+    }
+}
+
+// As a text: refused N layer M place P byte B.
+impl fmt::Display for FileRefusal {
+    ghost use Rattle.layout.specs.Refusals.{refusal_text};
+
+    ghost output = { λ refusal. Some (refusal_text refusal) };
+
+    fn fmt<W: fmt::Write>(&self, f: &mut fmt::Formatter<W>) -> fmt::Result {
+        let (told, byte) = (self.told(), self.byte());
+        write!(f, "{told} byte {byte}")
     }
 }

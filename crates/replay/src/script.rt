@@ -2,7 +2,8 @@
 use crate::stop::Stop;
 use calls::{Answer, Call, Event};
 use keys::KeyStage;
-use keytext::{KindName, kind_name, number, stage};
+use keytext::{kind_name, number, stage};
+use kinds::KindName;
 use scripts::call_of;
 use std::alloc::{AllocError, Global};
 

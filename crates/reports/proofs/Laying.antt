@@ -2,9 +2,9 @@
 use Rattle.std.proofs.Common.{◌≡◌, ℕ, ◌+◌, ◌*◌, ◌<◌, ◌≤◌, List, [], ◌∷◌, ◌++◌, length, get_or, take, drop, ℤ, sym, refl, ap, ◌∙◌, ap₂, append_assoc, add-zero, mul-le-mul_left, mul-zero, mul-suc, arith}
 use Rattle.std.specs.List.{flat_map}
 use Rattle.std.proofs.lemmas.List.{length-append, length-take-le, take-append-drop, take_at, drop_at, drop-drop, take_more, flat_map_more}
-use Rattle.layout.specs.declared.kind.FileKind.{FileKind}
-use Rattle.layout.specs.declared.kind.FileKind.TheVariants.{Hall, Radio}
-use Rattle.layout.specs.Kinds.{width}
+use Rattle.kinds.specs.declared.kind_name.KindName.{KindName}
+use Rattle.kinds.specs.declared.kind_name.KindName.TheVariants.{Hall, Radio}
+use Rattle.kinds.specs.KindNames.{width}
 use Rattle.reports.specs.Reports.{laid, tap_bytes}
 
 pub laid_laid : (d : List ℕ) (n : ℕ) (bs cs : List ℕ) (m : ℕ) → n + length bs ≤ length d → m ≡ n + length bs → laid (laid d n bs) m cs ≡ laid d n (bs ++ cs)
@@ -21,16 +21,16 @@ laid_laid d n bs cs m h e =
 pub laid_none : (d : List ℕ) (n : ℕ) → d ≡ laid d n []
 laid_none d n = sym (ap (λ k. take n d ++ drop k d) (add-zero n) ∙ take-append-drop n d)
 
-pub length_tap : (kind : FileKind) (t : ℤ × ℤ) → length (tap_bytes kind t) ≡ width kind
+pub length_tap : (kind : KindName) (t : ℤ × ℤ) → length (tap_bytes kind t) ≡ width kind
 length_tap Hall t = refl
 length_tap Radio t = refl
 
-pub length_taps : (kind : FileKind) (ts : List (ℤ × ℤ)) → length (flat_map (tap_bytes kind) ts) ≡ width kind * length ts
+pub length_taps : (kind : KindName) (ts : List (ℤ × ℤ)) → length (flat_map (tap_bytes kind) ts) ≡ width kind * length ts
 length_taps kind [] = sym (mul-zero (width kind))
 length_taps kind (t ∷ ts) = length-append (tap_bytes kind t) _ ∙ ap₂ (λ a b. a + b) (length_tap kind t) (length_taps kind ts) ∙ omega (arith, mul-suc (width kind) (length ts))
 
 -- one more tap
-pub laid_more : (d : List ℕ) (from : ℕ) (kind : FileKind) (ts : List (ℤ × ℤ)) (i n : ℕ) (z : ℤ × ℤ) → i < length ts → n ≡ from + width kind * i → from + width kind * length ts ≤ length d → laid (laid d from (flat_map (tap_bytes kind) (take i ts))) n (tap_bytes kind (get_or ts i z)) ≡ laid d from (flat_map (tap_bytes kind) (take (i + 1) ts))
+pub laid_more : (d : List ℕ) (from : ℕ) (kind : KindName) (ts : List (ℤ × ℤ)) (i n : ℕ) (z : ℤ × ℤ) → i < length ts → n ≡ from + width kind * i → from + width kind * length ts ≤ length d → laid (laid d from (flat_map (tap_bytes kind) (take i ts))) n (tap_bytes kind (get_or ts i z)) ≡ laid d from (flat_map (tap_bytes kind) (take (i + 1) ts))
 laid_more d from kind ts i n z l e h =
     let k : length (flat_map (tap_bytes kind) (take i ts)) ≡ width kind * i = length_taps kind (take i ts) ∙ ap (λ m. width kind * m) (length-take-le i ts (omega arith)) in
     let m : width kind * i ≤ width kind * length ts = mul-le-mul_left (width kind) (omega arith) in

@@ -1,16 +1,17 @@
 // Reports written into a buffer.
 ghost use Rattle.std.specs.Prelude.{◌≡◌, ◌+◌, ◌*◌, ◌≤◌, length, IfOk, None};
 ghost use Rattle.std.specs.List.{flat_map};
-ghost use Rattle.layout.specs.Kinds.{width};
+ghost use Rattle.kinds.specs.KindNames.{width};
 ghost use Rattle.layout.specs.Tests.{first_refusal, unless};
 ghost use Rattle.reports.specs.Reports.{number_bytes, tap_bytes, report_head, report_bytes, report_length, laid, buffer_after, tap_tests, report_tests};
 
 use crate::checking::check_taps;
 use calls::Refusal;
-use layout::{FileKind, FileRefusal};
+use kinds::KindName;
+use layout::FileRefusal;
 
 // How long the report of a room length is.
-pub fn report_length(kind: FileKind, room: u16) -> usize
+pub fn report_length(kind: KindName, room: u16) -> usize
     ensures { result ≡ report_length kind room }
 {
     6 + kind.width() * usize::from(room)
@@ -33,20 +34,20 @@ fn two_bytes(word: i64) -> [u8; 2]
     [high, low]
 }
 
-fn lay_tap(out: &mut [u8], n: usize, kind: FileKind, tap: (i64, i64))
+fn lay_tap(out: &mut [u8], n: usize, kind: KindName, tap: (i64, i64))
     requires { n + width kind ≤ length out.old }
     ensures { out.new ≡ laid out.old n (tap_bytes kind tap) }
 {
     let (x, y) = tap;
     lay(out, n, &two_bytes(x));
     match kind {
-        FileKind::Hall => {}
-        FileKind::Radio => lay(out, n + 2, &two_bytes(y)),
+        KindName::Hall => {}
+        KindName::Radio => lay(out, n + 2, &two_bytes(y)),
     }
 }
 
 // Lays the taps one after another from place `from` on.
-fn lay_taps(out: &mut [u8], from: usize, kind: FileKind, taps: &[(i64, i64)])
+fn lay_taps(out: &mut [u8], from: usize, kind: KindName, taps: &[(i64, i64)])
     requires { from + width kind * length taps.now ≤ length out.old }
     ensures { out.new ≡ laid out.old from (flat_map (tap_bytes kind) taps.now) }
 {
@@ -58,18 +59,18 @@ fn lay_taps(out: &mut [u8], from: usize, kind: FileKind, taps: &[(i64, i64)])
 }
 
 // What stands before the taps.
-fn head_of(kind: FileKind, room: u16) -> [u8; 6]
+fn head_of(kind: KindName, room: u16) -> [u8; 6]
     requires { room ≤ 256 }
     ensures { result ≡ report_head kind room }
 {
     let follows = 3 + kind.width() * usize::from(room);
     let [length_high, length_low] = (follows as u16).to_be_bytes();
     let [room_high, room_low] = room.to_be_bytes();
-    [1, length_high, length_low, kind.byte(), room_high, room_low]
+    [1, length_high, length_low, kind.into(), room_high, room_low]
 }
 
 // Writes the report of these taps at the front of the buffer, and answers its length.
-fn write(out: &mut [u8], kind: FileKind, taps: &[(i64, i64)]) -> usize
+fn write(out: &mut [u8], kind: KindName, taps: &[(i64, i64)]) -> usize
     requires { (length taps.now ≤ 256) × (report_length kind (length taps.now) ≤ length out.old) }
     ensures size { result ≡ length (report_bytes kind (length taps.now) taps.now) }
     ensures after { out.new ≡ buffer_after None (report_bytes kind (length taps.now) taps.now) out.old }
@@ -84,7 +85,7 @@ fn write(out: &mut [u8], kind: FileKind, taps: &[(i64, i64)]) -> usize
 // The same, or the refusal of the first tap that a report can't hold.
 fn write_checked(
     out: &mut [u8],
-    kind: FileKind,
+    kind: KindName,
     taps: &[(i64, i64)],
     size: usize,
 ) -> Result<usize, FileRefusal>
@@ -103,7 +104,7 @@ fn write_checked(
 // or answers the first refusal that comes, and leaves the buffer as it is. `size` is the length of the file that is answered.
 pub fn write_report(
     out: &mut [u8],
-    kind: FileKind,
+    kind: KindName,
     taps: &[(i64, i64)],
     size: usize,
 ) -> Result<usize, FileRefusal>

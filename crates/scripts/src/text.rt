@@ -4,6 +4,7 @@ ghost use Rattle.scripts.specs.Texts.{all_now, behind, line_of, answered, two_wo
 
 use calls::{Answer, Refusal};
 use keys::KeyRefusal;
+use refusals::Refused;
 use std::alloc::{AllocError, Global};
 
 // Puts a blank and a word behind the text.

@@ -3,6 +3,7 @@ use keys::{Key, KeyRefusal, KeyStage, check_kernel, check_stage_count, delays_fi
 use kinds::Kind;
 use kinds::hall::Hall;
 use kinds::radio::Radio;
+use refusals::Refused;
 use std::process::Abort;
 use std::test::Fail;
 

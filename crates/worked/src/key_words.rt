@@ -1,6 +1,7 @@
 // The words by which a key is written.
 use keys::KeyStage;
-use keytext::{KindName, kind_name, number, stage};
+use keytext::{kind_name, number, stage};
+use kinds::KindName;
 
 #[test]
 fn kind_names(rt: HostRuntime) {

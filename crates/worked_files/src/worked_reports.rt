@@ -2,6 +2,7 @@
 use files::{report, report_input};
 use filetext::refusal_line;
 use layout::FileRefusal;
+use refusals::Refused;
 use std::test::Fail;
 
 // Hall, kernel 1, delay 1, code 0, room length 2, records 3 2 -1 and 3 -4 1.

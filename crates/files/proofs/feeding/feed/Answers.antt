@@ -5,7 +5,7 @@ use Rattle.std.proofs.lemmas.Result.{err_from_is_err_and}
 use Rattle.calls.specs.declared.call.Call.TheVariants.{Sample}
 use Rattle.calls.specs.Answers.{done, accepted}
 use Rattle.sounder.specs.States.{State, state_of, says, next}
-use Rattle.layout.specs.Kinds.{width}
+use Rattle.kinds.specs.KindNames.{width}
 use Rattle.layout.specs.Tests.{unless}
 use Rattle.layout.proofs.Orders.{each_here, each_later, each_all, answers_some, answers_none}
 use Rattle.files.specs.Samples.{sample_in, samples_in}

@@ -3,8 +3,8 @@ use Rattle.kinds.specs.Kinds.{KindModel}
 use Rattle.sums.specs.Codes.{Codes}
 use Rattle.keys.specs.Plans.{Plan, plan_of}
 use Rattle.files.specs.KeyCodes.{key_codes}
-use Rattle.layout.specs.declared.kind.FileKind.{FileKind}
-use Rattle.layout.specs.declared.kind.FileKind.TheVariants.{Hall, Radio}
+use Rattle.kinds.specs.declared.kind_name.KindName.{KindName}
+use Rattle.kinds.specs.declared.kind_name.KindName.TheVariants.{Hall, Radio}
 use Rattle.layout.specs.declared.refusal.FileRefusal.{FileRefusal}
 use Rattle.layout.specs.declared.sounding.Sounding.{Sounding}
 use Rattle.reports.specs.Reports.{report_bytes}
@@ -14,18 +14,18 @@ use Rattle.files.specs.Files.{hall_kind, radio_kind, tests_over, report_over, La
 use Rattle.files.proofs.reporting.report_by_kind.Goals as goal
 
 -- a sounding whose kind is v, as one of the kind v
-at_kind : {S : Type 0} (k : KindModel S) (c : Codes S) (s : Sounding) (size : ℕ) (r : Result ℕ FileRefusal) (d e : List ℕ) (v : FileKind) → s.kind ≡ v
+at_kind : {S : Type 0} (k : KindModel S) (c : Codes S) (s : Sounding) (size : ℕ) (r : Result ℕ FileRefusal) (d e : List ℕ) (v : KindName) → s.kind ≡ v
     → Reports (tests_over k c s size (length d)) (report_over k c s) (LawsOver k c s) r d e
     → Reports (sounding_tests k c v s.room s.records.now s.room_byte size (length d)) (report_bytes v s.room (taps k c v s.room s.records.now)) (TapsLaws k c v s.room s.records.now) r d e
 at_kind k c s size r d e v is =
-    subst (λ (w : FileKind). Reports (sounding_tests k c w s.room s.records.now s.room_byte size (length d)) (report_bytes w s.room (taps k c w s.room s.records.now)) (TapsLaws k c w s.room s.records.now) r d e) is
+    subst (λ (w : KindName). Reports (sounding_tests k c w s.room s.records.now s.room_byte size (length d)) (report_bytes w s.room (taps k c w s.room s.records.now)) (TapsLaws k c w s.room s.records.now) r d e) is
 
 -- and back
-named : (p : Plan) (s : Sounding) (size : ℕ) (r : Result ℕ FileRefusal) (d e : List ℕ) (v : FileKind) → s.kind ≡ v
+named : (p : Plan) (s : Sounding) (size : ℕ) (r : Result ℕ FileRefusal) (d e : List ℕ) (v : KindName) → s.kind ≡ v
     → Reports (tests_for p s.room s.records.now v s.room_byte size (length d)) (report_for p s.room s.records.now v) (LawsFor p s.room s.records.now v) r d e
     → Reports (tests_for p s.room s.records.now s.kind s.room_byte size (length d)) (report_for p s.room s.records.now s.kind) (LawsFor p s.room s.records.now s.kind) r d e
 named p s size r d e v is =
-    subst (λ (w : FileKind). Reports (tests_for p s.room s.records.now w s.room_byte size (length d)) (report_for p s.room s.records.now w) (LawsFor p s.room s.records.now w) r d e) (sym is)
+    subst (λ (w : KindName). Reports (tests_for p s.room s.records.now w s.room_byte size (length d)) (report_for p s.room s.records.now w) (LawsFor p s.room s.records.now w) r d e) (sym is)
 
 pub returns-in-Hall : goal.returns-in-Hall
 returns-in-Hall c =

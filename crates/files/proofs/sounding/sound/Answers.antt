@@ -12,7 +12,7 @@ use Rattle.calls.specs.Runs.{new, answer_after}
 use Rattle.sounder.specs.States.{State, state_of, says, next}
 use Rattle.sounder.specs.Standing.{Stands}
 use Rattle.sounder.proofs.Standing.{stands_new}
-use Rattle.layout.specs.Kinds.{width}
+use Rattle.kinds.specs.KindNames.{width}
 use Rattle.layout.specs.Tests.{first_refusal}
 use Rattle.layout.proofs.Orders.{answers_some, answers_none}
 use Rattle.files.specs.Samples.{samples_in}

@@ -6,8 +6,8 @@ use Rattle.calls.specs.declared.call.Call.TheVariants.{Turn, Close}
 use Rattle.calls.specs.declared.call.Answer.TheVariants.{Done}
 use Rattle.calls.specs.Answers.{done}
 use Rattle.sounder.specs.States.{State, state_of, next}
-use Rattle.layout.specs.declared.kind.FileKind.{FileKind}
-use Rattle.layout.specs.Kinds.{width}
+use Rattle.kinds.specs.declared.kind_name.KindName.{KindName}
+use Rattle.kinds.specs.KindNames.{width}
 use Rattle.layout.specs.Tests.{Test, first_refusal, unless}
 use Rattle.layout.proofs.Orders.{passed, stopped, answers_some, answers_none}
 use Rattle.files.specs.Samples.{samples_in}
@@ -19,7 +19,7 @@ use Rattle.files.proofs.sounding.take_records.Given as given
 use Rattle.files.proofs.sounding.take_records.Goals as goal
 
 -- the tests on both records
-module _ (g : given.Over) (codes : Codes g.row.P-Sample.Denot) (kind : FileKind) (records : List ℕ) (n from : ℕ) where
+module _ (g : given.Over) (codes : Codes g.row.P-Sample.Denot) (kind : KindName) (records : List ℕ) (n from : ℕ) where
   abbrev first_tests : List Test
   first_tests = sample_tests g.P.Sample.Kind codes kind from (samples_in kind records n)
 

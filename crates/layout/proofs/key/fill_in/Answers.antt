@@ -1,4 +1,4 @@
-use Rattle.layout.specs.Kinds.{roots}
+use Rattle.kinds.specs.KindNames.{roots}
 use Rattle.layout.proofs.KeyBytes.{key_small}
 use Rattle.layout.proofs.key.fill_in.Goals as goal
 

@@ -1,6 +1,6 @@
 use Rattle.std.proofs.Common.{◌≡◌, ℕ, ◌+◌, List, sym, refl, ap, ◌∙◌, ap₂, arith, w64, SFits, rules}
 use Rattle.std.proofs.lemmas.Int.{to_z-of_z}
-use Rattle.layout.specs.Kinds.{width}
+use Rattle.kinds.specs.KindNames.{width}
 use Rattle.reports.specs.Reports.{laid, number_bytes, tap_bytes}
 use Rattle.reports.proofs.Laying.{laid_laid}
 use Rattle.reports.proofs.writing.lay_tap.Goals as goal

@@ -1,7 +1,7 @@
 use Rattle.std.proofs.Common.{ℕ, ◌+◌, ◌*◌, ◌≤◌, List, length, get_or, pos, ap, ◌∙◌, mul-le-mul_left, mul-one, mul-add, arith}
 use Rattle.std.specs.List.{flat_map}
 use Rattle.std.proofs.lemmas.List.{take_all}
-use Rattle.layout.specs.Kinds.{width}
+use Rattle.kinds.specs.KindNames.{width}
 use Rattle.reports.specs.Reports.{laid, tap_bytes}
 use Rattle.reports.proofs.Laying.{laid_none, laid_more}
 use Rattle.reports.proofs.writing.lay_taps.Goals as goal

@@ -1,6 +1,6 @@
 use Rattle.std.proofs.Common.{◌≡◌, ◌+◌, ◌*◌, take}
 use Rattle.std.specs.List.{flat_map}
-use Rattle.layout.specs.Kinds.{width}
+use Rattle.kinds.specs.KindNames.{width}
 use Rattle.reports.specs.Reports.{laid, tap_bytes}
 use Rattle.reports.proofs.writing.lay_taps.Given as goal
 
