@@ -19,7 +19,7 @@ pub enum Call {
     Tap(usize),
 }
 
-// What a call answers.
+// What a call answers: an enum of its own and no Result, since there are three outcomes, printed as three texts.
 #[derive(Clone, Copy, PartialEq, Eq, Debug)]
 pub enum Answer {
     Done,
@@ -34,20 +34,24 @@ pub struct Event {
     pub answer: Answer,
 }
 
-pub fn answer_done(r: Result<(), Refusal>) -> Answer
-    ensures { result ≡ done r }
-{
-    match r {
-        Ok(()) => Answer::Done,
-        Err(e) => Answer::Refused(e),
+impl From<Result<(), Refusal>> for Answer {
+    ghost from_gives = { λ r a. a ≡ done r };
+
+    fn from(r: Result<(), Refusal>) -> Answer {
+        match r {
+            Ok(()) => Answer::Done,
+            Err(e) => Answer::Refused(e),
+        }
     }
 }
 
-pub fn answer_words(r: Result<(i64, i64), Refusal>) -> Answer
-    ensures { result ≡ worded r }
-{
-    match r {
-        Ok((first, second)) => Answer::Words(first, second),
-        Err(e) => Answer::Refused(e),
+impl From<Result<(i64, i64), Refusal>> for Answer {
+    ghost from_gives = { λ r a. a ≡ worded r };
+
+    fn from(r: Result<(i64, i64), Refusal>) -> Answer {
+        match r {
+            Ok((first, second)) => Answer::Words(first, second),
+            Err(e) => Answer::Refused(e),
+        }
     }
 }

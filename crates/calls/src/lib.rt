@@ -5,6 +5,6 @@ mod call;
 mod phase;
 mod refusal;
 
-pub use call::{Answer, Call, Event, answer_done, answer_words};
+pub use call::{Answer, Call, Event};
 pub use phase::Phase;
 pub use refusal::Refusal;

@@ -25,46 +25,31 @@ impl Phase {
     pub fn may_open(self) -> bool
         ensures { result ≡ may_open self }
     {
-        match self {
-            Phase::Idle | Phase::Complete => true,
-            _ => false,
-        }
+        matches!(self, Phase::Idle | Phase::Complete)
     }
 
     pub fn may_sample(self) -> bool
         ensures { result ≡ may_sample self }
     {
-        match self {
-            Phase::FirstRecord | Phase::SecondRecord => true,
-            _ => false,
-        }
+        matches!(self, Phase::FirstRecord | Phase::SecondRecord)
     }
 
     pub fn may_turn(self) -> bool
         ensures { result ≡ may_turn self }
     {
-        match self {
-            Phase::FirstRecord => true,
-            _ => false,
-        }
+        self == Phase::FirstRecord
     }
 
     pub fn may_close(self) -> bool
         ensures { result ≡ may_close self }
     {
-        match self {
-            Phase::SecondRecord => true,
-            _ => false,
-        }
+        self == Phase::SecondRecord
     }
 
     // Sums and taps are there to be read.
     pub fn may_read(self) -> bool
         ensures { result ≡ may_read self }
     {
-        match self {
-            Phase::Complete => true,
-            _ => false,
-        }
+        self == Phase::Complete
     }
 }

@@ -52,11 +52,11 @@ impl Refused for Refusal {
     fn place(&self) -> usize {
         match *self {
             Refusal::RoomLength => 0,
-            Refusal::WrongPhase(phase) => phase.number() as usize,
-            Refusal::NoSample(count) => count,
-            Refusal::Magnitude(count) => count,
-            Refusal::RecordFull(count) => count,
-            Refusal::RecordNotFull(count) => count,
+            Refusal::WrongPhase(phase) => usize::from(phase.number()),
+            Refusal::NoSample(count)
+            | Refusal::Magnitude(count)
+            | Refusal::RecordFull(count)
+            | Refusal::RecordNotFull(count) => count,
             Refusal::Index(index) => index,
         }
     }

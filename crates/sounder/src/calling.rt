@@ -1,4 +1,5 @@
-ghost use Rattle.std.specs.Prelude.{◌≡◌, ◌+◌, ◌-◌, ◌<◌, ◌≤◌, IfOk, if◌then◌else◌, Some, None, ◌==◌, nat_lt};
+ghost use Rattle.std.specs.Prelude.{◌≡◌, ◌+◌, ◌-◌, ◌<◌, ◌≤◌, IfOk, if◌then◌else◌, Some, None, Ok, Err, ◌==◌, nat_lt};
+ghost use Rattle.calls.specs.declared.refusal.Refusal.TheVariants.{WrongPhase, RecordNotFull};
 ghost use Rattle.sums.specs.Codes.{PairLaws, arriving, pushed};
 ghost use Rattle.pairs.specs.Pairs.{codes_of};
 ghost use Rattle.tables.specs.Tables.{words, sample_of};
@@ -7,7 +8,7 @@ ghost use Rattle.sounder.specs.States.{state, state_of, fresh, playing, gathered
 
 use crate::rounding::divided;
 use crate::state::Sounder;
-use calls::{Answer, Call, Phase, Refusal, answer_done, answer_words};
+use calls::{Answer, Call, Phase, Refusal};
 use kinds::Kind;
 use pairs::Pair;
 use sums::Side;
@@ -18,11 +19,7 @@ fn sum_index(span: usize, count: usize) -> Option<usize>
     requires { (span ≤ 4096) × (count < 4352) }
     ensures { result ≡ (if nat_lt (count + 1) span then None else Some (count + 1 - span)) }
 {
-    if count + 1 < span {
-        None
-    } else {
-        Some(count + 1 - span)
-    }
+    (count + 1).checked_sub(span)
 }
 
 // Adds y to the sum that comes out with sample `count` of a record, if one does.
@@ -73,20 +70,45 @@ impl<P: Pair> Sounder<P> {
         Sounder::in_phase(pair, Phase::Idle)
     }
 
+    // Refuses a call that the phase does not allow.
+    fn allow(&self, allowed: bool) -> Result<(), Refusal>
+        ensures { result ≡ (if allowed then Ok tt else Err (WrongPhase self.now.phase)) }
+    {
+        if allowed {
+            Ok(())
+        } else {
+            Err(Refusal::WrongPhase(self.phase))
+        }
+    }
+
+    // How many samples a full record has.
+    fn full_count(&self) -> usize
+        ensures { result ≡ full P.Sample.Kind (codes_of P.Pair self.now.pair) self.now.room }
+    {
+        self.pair.span() + self.room - 1
+    }
+
+    // Refuses a call that ends a record while the record is not full.
+    fn check_full(&self) -> Result<(), Refusal>
+        ensures { result ≡ (if self.now.count == full P.Sample.Kind (codes_of P.Pair self.now.pair) self.now.room then Ok tt else Err (RecordNotFull self.now.count)) }
+    {
+        if self.count == self.full_count() {
+            Ok(())
+        } else {
+            Err(Refusal::RecordNotFull(self.count))
+        }
+    }
+
     // The sample of two words, if it may be taken now.
     fn admit(&self, first: i64, second: i64) -> Result<P::Sample, Refusal>
         ensures value { done result ≡ says P.Sample.Kind (Call.Sample first second) (state_of P.Sample.Kind P.Pair self.now) }
         ensures sample { IfOk result (λ x. (Some x ≡ P.Sample.Kind.encoding.sample first second) × (self.now.count < P.Pair.span self.now.pair + self.now.room - 1)) }
     {
-        if !self.phase.may_sample() {
-            return Err(Refusal::WrongPhase(self.phase));
-        }
-        if self.count >= self.pair.span() + self.room - 1 {
+        self.allow(self.phase.may_sample())?;
+        if self.count >= self.full_count() {
             return Err(Refusal::RecordFull(self.count));
         }
-        let Some(x) = P::Sample::from_words(first, second) else {
-            return Err(Refusal::NoSample(self.count));
-        };
+        let x = P::Sample::from_words(first, second).ok_or(Refusal::NoSample(self.count))?;
         if x.magnitude() > 32767 {
             return Err(Refusal::Magnitude(self.count));
         }
@@ -95,13 +117,6 @@ impl<P: Pair> Sounder<P> {
 }
 
 impl<P: Pair> Sounder<P> {
-    // Whether the record that is being taken is full.
-    fn is_full(&self) -> bool
-        ensures { result ≡ (self.now.count == full P.Sample.Kind (codes_of P.Pair self.now.pair) self.now.room) }
-    {
-        self.count == self.pair.span() + self.room - 1
-    }
-
     // Takes a sample that was admitted.
     fn take(&mut self, x: P::Sample)
         requires { self.old.count < P.Pair.span self.old.pair + self.old.room - 1 }
@@ -129,10 +144,8 @@ impl<P: Pair> Sounder<P> {
     pub fn open(&mut self, room: usize) -> Result<(), Refusal>
         ensures { Does P.Sample.Kind P.Pair (Call.Open room) self.old self.new (done result) }
     {
-        if !self.phase.may_open() {
-            return Err(Refusal::WrongPhase(self.phase));
-        }
-        if room == 0 || room > 256 {
+        self.allow(self.phase.may_open())?;
+        if !(1..=256).contains(&room) {
             return Err(Refusal::RoomLength);
         }
         self.begin(room);
@@ -152,12 +165,8 @@ impl<P: Pair> Sounder<P> {
     pub fn turn(&mut self) -> Result<(), Refusal>
         ensures { Does P.Sample.Kind P.Pair Call.Turn self.old self.new (done result) }
     {
-        if !self.phase.may_turn() {
-            return Err(Refusal::WrongPhase(self.phase));
-        }
-        if !self.is_full() {
-            return Err(Refusal::RecordNotFull(self.count));
-        }
+        self.allow(self.phase.may_turn())?;
+        self.check_full()?;
         self.pair.clear(); // the second record begins in silence
         self.phase = Phase::SecondRecord;
         self.count = 0;
@@ -168,12 +177,8 @@ impl<P: Pair> Sounder<P> {
     pub fn close(&mut self) -> Result<(), Refusal>
         ensures { Does P.Sample.Kind P.Pair Call.Close self.old self.new (done result) }
     {
-        if !self.phase.may_close() {
-            return Err(Refusal::WrongPhase(self.phase));
-        }
-        if !self.is_full() {
-            return Err(Refusal::RecordNotFull(self.count));
-        }
+        self.allow(self.phase.may_close())?;
+        self.check_full()?;
         self.phase = Phase::Complete;
         Ok(())
     }
@@ -195,9 +200,7 @@ impl<P: Pair> Sounder<P> {
             1 => self.pair.entry(Side::B, index),
             _ => None,
         };
-        let Some(x) = entry else {
-            return Err(Refusal::Index(index));
-        };
+        let x = entry.ok_or(Refusal::Index(index))?;
         Ok(x.words())
     }
 
@@ -205,9 +208,7 @@ impl<P: Pair> Sounder<P> {
     fn sum_at(&self, index: usize) -> Result<P::Sample, Refusal>
         ensures { result ≡ sum_read (state_of P.Sample.Kind P.Pair self.now) index }
     {
-        if !self.phase.may_read() {
-            return Err(Refusal::WrongPhase(self.phase));
-        }
+        self.allow(self.phase.may_read())?;
         if index >= self.room {
             return Err(Refusal::Index(index));
         }
@@ -238,14 +239,14 @@ impl<P: Pair> Sounder<P> {
         ensures { Does P.Sample.Kind P.Pair call self.old self.new result }
     {
         match call {
-            Call::Open(room) => answer_done(self.open(room)),
-            Call::Sample(first, second) => answer_done(self.sample(first, second)),
-            Call::Turn => answer_done(self.turn()),
-            Call::Close => answer_done(self.close()),
-            Call::Abandon => answer_done(self.abandon()),
-            Call::Code(side, index) => answer_words(self.code(side, index)),
-            Call::Sum(index) => answer_words(self.sum(index)),
-            Call::Tap(index) => answer_words(self.tap(index)),
+            Call::Open(room) => self.open(room).into(),
+            Call::Sample(first, second) => self.sample(first, second).into(),
+            Call::Turn => self.turn().into(),
+            Call::Close => self.close().into(),
+            Call::Abandon => self.abandon().into(),
+            Call::Code(side, index) => self.code(side, index).into(),
+            Call::Sum(index) => self.sum(index).into(),
+            Call::Tap(index) => self.tap(index).into(),
         }
     }
 }
