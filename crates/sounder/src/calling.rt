@@ -153,6 +153,7 @@ impl<P: Pair> Sounder<P> {
     }
 
     // Takes the next sample of the record, by its two words.
+    // The words stay two numbers: from_words of the kind and Call::Sample have them so, and a pair would be taken apart again.
     pub fn sample(&mut self, first: i64, second: i64) -> Result<(), Refusal>
         ensures { Does P.Sample.Kind P.Pair (Call.Sample first second) self.old self.new (done result) }
     {
@@ -195,12 +196,8 @@ impl<P: Pair> Sounder<P> {
     pub fn code(&self, side: u8, index: usize) -> Result<(i64, i64), Refusal>
         ensures { worded result ≡ says P.Sample.Kind (Call.Code side index) (state_of P.Sample.Kind P.Pair self.now) }
     {
-        let entry = match side {
-            0 => self.pair.entry(Side::A, index),
-            1 => self.pair.entry(Side::B, index),
-            _ => None,
-        };
-        let x = entry.ok_or(Refusal::Index(index))?;
+        let side = Side::try_from(side).map_err(|_| Refusal::Index(index))?;
+        let x = self.pair.entry(side, index).ok_or(Refusal::Index(index))?;
         Ok(x.words())
     }
 

@@ -22,6 +22,7 @@ pub(crate) fn divided(z: i64, e: u32) -> i64
     requires { 1 ≤ e }
     ensures { result ≡ rounded z e }
 {
+    // Casts, each proved to keep the number: try_from would add an error that never comes.
     let q = nearest_magnitude(z, e) as i128;
     if z < 0 { -q as i64 } else { q as i64 }
 }

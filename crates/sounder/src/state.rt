@@ -4,6 +4,7 @@ use calls::Phase;
 use tables::WordTable;
 
 // A sounder over a pair: the phase, the room length, the samples accepted in the record, and the sums so far.
+// Tried as an impl Model with the State of specs/ as Value: refused, since its codes and sums are functions, which have no code.
 #[derive(Drop)]
 pub struct Sounder<P> {
     pub(crate) pair: P,
