@@ -1,7 +1,8 @@
-ghost use Rattle.std.specs.Prelude.{◌≡◌};
+ghost use Rattle.std.specs.Prelude.{◌≡◌, Some};
 ghost use Rattle.calls.specs.Answers.{done, worded};
 
 use crate::refusal::Refusal;
+use std::fmt;
 
 // A call of a sounder.
 #[derive(Clone, Copy, PartialEq, Eq, Debug)]
@@ -52,6 +53,21 @@ impl From<Result<(i64, i64), Refusal>> for Answer {
         match r {
             Ok((first, second)) => Answer::Words(first, second),
             Err(e) => Answer::Refused(e),
+        }
+    }
+}
+
+// As a text: ok, the two words, or why the call is refused.
+impl fmt::Display for Answer {
+    ghost use Rattle.calls.specs.Texts.{answer_text};
+
+    ghost output = { λ answer. Some (answer_text answer) };
+
+    fn fmt<W: fmt::Write>(&self, f: &mut fmt::Formatter<W>) -> fmt::Result {
+        match self {
+            Answer::Done => f.write_str("ok"),
+            Answer::Words(first, second) => write!(f, "{first} {second}"),
+            Answer::Refused(refusal) => write!(f, "{refusal}"),
         }
     }
 }
