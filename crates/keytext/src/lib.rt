@@ -6,5 +6,5 @@ mod numbers;
 mod stages;
 
 pub use names::kind_name;
-pub use numbers::number;
+pub use numbers::{number, number_up_to};
 pub use stages::stage;

@@ -1,25 +1,29 @@
 // Decimal numbers.
-ghost use Rattle.std.specs.Prelude.{◌≡◌};
-ghost use Rattle.keytext.specs.Numbers.{with_digit, digits_after, number_of};
+ghost use Rattle.std.specs.Prelude.{◌≡◌, ◌≤◌, IfSome};
+ghost use Rattle.keytext.specs.Numbers.{with_digit, number_up_to, number_of};
 
 // The number with one more digit behind it, absent if the byte is no digit.
-fn with_digit(n: u8, byte: u8) -> Option<u8>
-    ensures { result ≡ with_digit n byte }
+fn with_digit(n: usize, byte: u8, most: usize) -> Option<usize>
+    ensures { result ≡ with_digit most n byte }
 {
     if !byte.is_ascii_digit() {
         return None;
     }
-    let longer = 10 * n as u16 + (byte - b'0') as u16;
-    Some(longer.min(255) as u8)
+    let digit = usize::from(byte - b'0');
+    Some(n.saturating_mul(10).saturating_add(digit).min(most))
 }
 
-// The number of some digits, 0 if there are none.
-fn digits(bytes: &[u8]) -> Option<u8>
-    ensures { result ≡ digits_after 0 bytes.now }
+// The number of one or more decimal digits and nothing else. Every number above the most counts as the most.
+pub fn number_up_to(digits: &[u8], most: usize) -> Option<usize>
+    ensures value { result ≡ number_up_to most digits.now }
+    ensures bound { IfSome result (λ n. n ≤ most) }
 {
+    if digits.is_empty() {
+        return None;
+    }
     let mut n = 0;
-    for byte in bytes {
-        n = with_digit(n, *byte)?;
+    for byte in digits {
+        n = with_digit(n, *byte, most)?;
     }
     Some(n)
 }
@@ -30,8 +34,5 @@ fn digits(bytes: &[u8]) -> Option<u8>
 pub fn number(word: &str) -> Option<u8>
     ensures { result ≡ number_of word.now }
 {
-    if word.is_empty() {
-        return None;
-    }
-    digits(word.as_bytes())
+    Some(number_up_to(word.as_bytes(), 255)? as u8)
 }

@@ -1,21 +1,11 @@
 -- Decimal numbers: indices, of which those above 2 ^ 64 - 1 count as 2 ^ 64 - 1, and the words of a sample.
-use Rattle.std.specs.Prelude.{ℕ, ◌+◌, ◌-◌, ◌*◌, ◌^◌, min, cond, List, [], ◌∷◌, ℤ, pos, neg_ℤ, Some, None, Option, ◌==◌, nat_le, nat_lt}
-use Rattle.keytext.specs.Numbers.{is_digit}
+use Rattle.std.specs.Prelude.{ℕ, ◌-◌, ◌^◌, cond, List, [], ◌∷◌, ℤ, pos, neg_ℤ, Some, None, Option, ◌==◌, nat_le, nat_lt}
+use Rattle.keytext.specs.Numbers.{number_up_to}
 use Rattle.keytext.specs.Steps.{and_then}
-
--- the number n with one more digit behind it
-abbrev pub with_digit : ℕ → ℕ → Option ℕ
-with_digit n byte = cond (is_digit byte) (Some (min (10 * n + (byte - 48)) (2 ^ 64 - 1))) None
-
--- the number n with all of these digits behind it
-abbrev pub digits_after : ℕ → List ℕ → Option ℕ
-digits_after n [] = Some n
-digits_after n (byte ∷ bytes) = and_then (with_digit n byte) (λ m. digits_after m bytes)
 
 -- one digit or more
 abbrev pub index_of : List ℕ → Option ℕ
-index_of [] = None
-index_of (byte ∷ bytes) = digits_after 0 (byte ∷ bytes)
+index_of = number_up_to (2 ^ 64 - 1)
 
 -- n as a word, which is below 2 ^ 63
 abbrev pub positive : ℕ → Option ℤ
