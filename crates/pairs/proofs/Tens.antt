@@ -8,9 +8,9 @@ use Rattle.sums.specs.declared.Side.{Side}
 use Rattle.sums.specs.declared.Side.TheVariants.{A, B}
 use Rattle.sums.specs.Codes.{Pending, silent, reversed, matching}
 use Rattle.golay.specs.Kernels.{ten_entry}
-use Rattle.sums.proofs.Places.{below_outside}
 use Rattle.golay.proofs.Tens.{ten_past}
 use Rattle.pairs.specs.Kernels.{nine, nine_each}
+use Rattle.pairs.specs.KernelsLemmas.{nine_outside}
 use Rattle.tables.specs.Tables.{zeros, written, sample_of}
 use Rattle.tables.proofs.Tables.{zeros_at}
 use Rattle.tables.proofs.Lines.{sample_back, sample_zero}
@@ -21,9 +21,6 @@ pub record Shifted {S : Type 0} (k : KindModel S) (side : Side) (x : S) (start t
   pub same : (i : ℕ) → j ≤ i → table i ≡ start i
 
 module _ {S : Type 0} (k : KindModel S) where
-  nine_outside : (t : ℕ → ℤ × ℤ) (j : ℕ) → 9 ≤ j → nine k t j ≡ k.ring.zero
-  nine_outside t j h = below_outside 9 (λ i. sample_of k.ring k.encoding (t i)) k.ring.zero j h
-
   nine_same : (t u : ℕ → ℤ × ℤ) (i : ℕ) → t i ≡ u i → nine k t i ≡ nine k u i
   nine_same t u i e = ap (λ w. cond (ltb i 9) (sample_of k.ring k.encoding w) k.ring.zero) e
 
@@ -46,11 +43,7 @@ module _ {S : Type 0} (k : KindModel S) where
 
     pub shifted_all : RingLaws k.ring → ConjugationLaws k.ring → (table : ℕ → ℤ × ℤ) → Shifted k side x start table 9 → nine k table ≡ (λ j. matching k.ring 10 (ten_entry k.ring side) (nine k start) x (j + 1))
     shifted_all ring bar table s =
-        fun_ext (λ j. ⊎_elim (λ lt. s.done j lt) (λ le. nine_outside table j le ∙ sym (ten_past ring bar side (nine k start) x (j + 1) (omega arith) (nine_outside start (j + 1) (omega arith)))) (cases_lt j 9))
-
-  pub each_outside : (p q : ℕ → ℤ × ℤ) (side : Side) (j : ℕ) → 9 ≤ j → nine_each k p q side j ≡ k.ring.zero
-  each_outside p q A j h = nine_outside p j h
-  each_outside p q B j h = nine_outside q j h
+        fun_ext (λ j. ⊎_elim (λ lt. s.done j lt) (λ le. nine_outside k table j le ∙ sym (ten_past ring bar side (nine k start) x (j + 1) (omega arith) (nine_outside k start (j + 1) (omega arith)))) (cases_lt j 9))
 
   -- two lists, side by side
   pub each_is : (p q : ℕ → ℤ × ℤ) (f : Pending S) → nine k p ≡ f A → nine k q ≡ f B → nine_each k p q ≡ f

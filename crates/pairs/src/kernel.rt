@@ -2,6 +2,7 @@ ghost use Rattle.std.specs.Prelude.{◌≡◌};
 ghost use Rattle.sums.specs.Codes.{silent};
 ghost use Rattle.golay.specs.Kernels.{unit_codes, ten_codes};
 ghost use Rattle.pairs.specs.Kernels.{kernel_codes, kernel_pending};
+ghost use Rattle.pairs.specs.KernelsLemmas.{kernel_laws};
 
 use crate::Pair;
 use crate::ten::TenKernel;
@@ -45,6 +46,8 @@ impl<K: Kind> Pair for Kernel<K> {
     ghost counts = { λ s. (kernel_codes K.Kind s).counts };
 
     ghost pending = { kernel_pending K.Kind };
+
+    ghost laws = { kernel_laws K.Kind.own K.Kind.algebra K.Kind.conjugation K.Kind.unity };
 
     fn size(&self) -> (usize, u32) {
         match self {

@@ -1,7 +1,7 @@
 // Pairs of complementary codes as correlators: the trait, the kernels, and stages over any pair.
 #![tactic(auto)]
 
-ghost use Rattle.std.specs.Prelude.{◌≡◌, ℕ, if◌then◌else◌, Some, None, nat_lt};
+ghost use Rattle.std.specs.Prelude.{◌≡◌, ℕ, ◌^◌, ◌≤◌, if◌then◌else◌, Some, None, nat_lt};
 ghost use Rattle.sums.specs.declared.Side.{Side};
 ghost use Rattle.sums.specs.Codes.{codes_at, PairLaws, answer, pushed, silent};
 
@@ -42,19 +42,18 @@ pub trait Pair {
 
     // The span and the energy together.
     fn size(&self) -> (usize, u32)
-        ensures value { result ≡ (span self.now, energy self.now) }
-        ensures laws { PairLaws Self.Sample.Kind.ring Self.Sample.Kind.polar (codes_at span energy code counts self.now) (pending self.now) };
+        ensures { result ≡ (span self.now, energy self.now) };
 
     fn span(&self) -> usize
         ensures value { result ≡ span self.now }
-        ensures laws { PairLaws Self.Sample.Kind.ring Self.Sample.Kind.polar (codes_at span energy code counts self.now) (pending self.now) }
+        ensures bounds { (1 ≤ result) × (result ≤ 4096) }
     {
         self.size().0
     }
 
     fn energy(&self) -> u32
         ensures value { result ≡ energy self.now }
-        ensures laws { PairLaws Self.Sample.Kind.ring Self.Sample.Kind.polar (codes_at span energy code counts self.now) (pending self.now) }
+        ensures bounds { (1 ≤ result) × (result ≤ 2 ^ 20) }
     {
         self.size().1
     }
@@ -62,6 +61,13 @@ pub trait Pair {
     // Entry k of a code: absent exactly if k is not below the span.
     fn entry(&self, side: Side, k: usize) -> Option<Self::Sample>
         ensures { result ≡ (if nat_lt k (span self.now) then Some (code self.now side k) else None) };
+
+    // Entry k of a code, zero past its end.
+    fn entry_or_zero(&self, side: Side, k: usize) -> Self::Sample
+        ensures { result ≡ code self.now side k }
+    {
+        self.entry(side, k).unwrap_or(Self::Sample::zero())
+    }
 
     // Takes in a sample, and answers the two sums that come out.
     fn push(&mut self, x: Self::Sample) -> (Self::Sample, Self::Sample)
@@ -73,4 +79,7 @@ pub trait Pair {
     fn clear(&mut self)
         ensures lists { pending self.new ≡ silent Self.Sample.Kind.ring }
         ensures same { codes_at span energy code counts self.new ≡ codes_at span energy code counts self.old };
+
+    // The bounds of span and energy, that the codes are complementary sums of roots, and that nothing stands past their ends.
+    ghost laws: { (s : Self) → PairLaws Self.Sample.Kind.ring Self.Sample.Kind.polar (codes_at span energy code counts s) (pending s) };
 }

@@ -1,7 +1,7 @@
-ghost use Rattle.std.specs.Prelude.{◌≡◌};
-ghost use Rattle.sums.specs.Codes.{PairLaws};
+ghost use Rattle.std.specs.Prelude.{◌≡◌, refl};
 ghost use Rattle.sums.specs.Sums.{late};
 ghost use Rattle.golay.specs.Stages.{weight_of, stage_codes, stage_pending};
+ghost use Rattle.golay.proofs.StageLaws.{stage_laws};
 ghost use Rattle.pairs.specs.Pairs.{codes_of};
 ghost use Rattle.pairs.specs.Stages.{weight_in, codes_in, pending_in};
 ghost use Rattle.tables.specs.Tables.{words, zeros};
@@ -22,17 +22,6 @@ pub struct Stage<P> {
     line: DelayLine,
 }
 
-// Entry k of a code, zero past its end.
-fn entry_or_zero<P: Pair>(pair: &P, side: Side, k: usize) -> P::Sample
-    ensures { result ≡ P.Pair.code pair.now side k }
-{
-    let _span = pair.span();
-    match pair.entry(side, k) {
-        Some(x) => x,
-        None => P::Sample::zero(),
-    }
-}
-
 // Entry k of a code that begins `delay` places late.
 fn late_entry<P: Pair>(pair: &P, side: Side, delay: usize, k: usize) -> P::Sample
     ensures { result ≡ late P.Sample.Kind.ring.zero delay (P.Pair.code pair.now side) k }
@@ -40,7 +29,7 @@ fn late_entry<P: Pair>(pair: &P, side: Side, delay: usize, k: usize) -> P::Sampl
     if k < delay {
         P::Sample::zero()
     } else {
-        entry_or_zero(pair, side, k - delay)
+        pair.entry_or_zero(side, k - delay)
     }
 }
 
@@ -88,8 +77,7 @@ impl<P: Pair> Stage<P> {
     }
 
     fn weight(&self) -> Option<P::Sample>
-        ensures value { result ≡ weight_in P.Sample.Kind (codes_of P.Pair) self.now }
-        ensures laws { PairLaws P.Sample.Kind.ring P.Sample.Kind.polar (codes_of P.Pair self.now.below) (P.Pair.pending self.now.below) }
+        ensures { result ≡ weight_in P.Sample.Kind (codes_of P.Pair) self.now }
     {
         let (span, energy) = self.below.size();
         self.weight_over(span, energy)
@@ -109,6 +97,8 @@ impl<P: Pair> Pair for Stage<P> {
 
     ghost pending = { pending_in P.Sample.Kind (codes_of P.Pair) P.Pair.pending };
 
+    ghost laws = { λ s. stage_laws P.Sample.Kind.algebra P.Sample.Kind.conjugation P.Sample.Kind.unity s.delay s.code _ _ _ (P.Pair.laws s.below) _ refl };
+
     fn size(&self) -> (usize, u32) {
         let (span, energy) = self.below.size();
         match self.weight_over(span, energy) {
@@ -125,7 +115,7 @@ impl<P: Pair> Pair for Stage<P> {
         if k >= self.below.span() + delay {
             return None;
         }
-        let early = w.product(entry_or_zero(&self.below, Side::A, k));
+        let early = w.product(self.below.entry_or_zero(Side::A, k));
         let late = late_entry(&self.below, Side::B, delay, k);
         match side {
             Side::A => Some(early.sum(late)),

@@ -2,6 +2,7 @@ ghost use Rattle.std.specs.Prelude.{◌≡◌, ◌+◌, ◌<◌};
 ghost use Rattle.sums.specs.Codes.{silent, matching};
 ghost use Rattle.golay.specs.Kernels.{is_minus, signed, ten_entry, ten_codes};
 ghost use Rattle.pairs.specs.Kernels.{nine, ten_pending};
+ghost use Rattle.pairs.specs.KernelsLemmas.{tables_laws};
 ghost use Rattle.tables.specs.Tables.{words};
 
 use crate::Pair;
@@ -88,6 +89,8 @@ impl<K: Kind> Pair for TenKernel<K> {
     ghost counts = { λ _. (ten_codes K.Kind.ring).counts };
 
     ghost pending = { ten_pending K.Kind };
+
+    ghost laws = { λ s. tables_laws K.Kind.own K.Kind.algebra K.Kind.conjugation K.Kind.unity (words s.p) (words s.q) };
 
     fn size(&self) -> (usize, u32) {
         (10, 20)

@@ -1,6 +1,7 @@
 ghost use Rattle.std.specs.Prelude.{◌≡◌};
 ghost use Rattle.sums.specs.Codes.{silent};
 ghost use Rattle.golay.specs.Kernels.{unit_codes};
+ghost use Rattle.golay.proofs.Units.{unit_laws};
 
 use crate::Pair;
 use kinds::Kind;
@@ -25,6 +26,8 @@ impl<K: Kind> Pair for UnitKernel<K> {
     ghost counts = { λ _. (unit_codes K.Kind.ring).counts };
 
     ghost pending = { λ _. silent K.Kind.ring };
+
+    ghost laws = { λ _. unit_laws K.Kind.algebra K.Kind.conjugation K.Kind.unity };
 
     fn size(&self) -> (usize, u32) {
         (1, 2)

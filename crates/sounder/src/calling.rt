@@ -52,7 +52,6 @@ impl<P: Pair> Sounder<P> {
         ensures value { state_of P.Sample.Kind P.Pair result ≡ state (codes_of P.Pair pair) (P.Pair.pending pair) phase 0 0 (λ i. P.Sample.Kind.ring.zero) }
         ensures laws { PairLaws P.Sample.Kind.ring P.Sample.Kind.polar (codes_of P.Pair pair) (P.Pair.pending pair) }
     {
-        let _span = pair.span();
         Sounder {
             pair,
             sums: WordTable::new(),

@@ -10,5 +10,5 @@ returns g c =
     let laws = g.met.P.Sample.Kind in
     record {
       value = ap (state (codes_of g.P.Pair c.args.pair) (g.P.Pair.pending c.args.pair) c.args.phase 0 0) (all_zero g.P.Sample.Kind laws.encodes laws.wordwise (words c.new.result) c.new.ensures);
-      laws = c.span-span.ensures.laws;
+      laws = g.met.P.Pair.laws c.args.pair;
     }
