@@ -20,7 +20,7 @@ pub(crate) struct Head<'a> {
 pub(crate) fn two_bytes(high: u8, low: u8) -> usize
     ensures { result ≡ high * 256 + low }
 {
-    usize::from(high) * 256 + usize::from(low)
+    usize::from(u16::from_be_bytes([high, low]))
 }
 
 // Whether two bytes tell the length of all that follows them.

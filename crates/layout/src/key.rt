@@ -30,13 +30,10 @@ fn in_file(answer: Result<(), KeyRefusal>) -> Result<(), FileRefusal>
     requires { IfErr answer (λ e. key_byte e < 2 ^ 64) }
     ensures { result ≡ unless (first_refusal (key_says answer)) tt }
 {
-    match answer {
-        Ok(()) => Ok(()),
-        Err(refusal) => {
-            let byte = byte_of(refusal);
-            Err(FileRefusal::Key { refusal, byte })
-        }
-    }
+    answer.map_err(|refusal| FileRefusal::Key {
+        refusal,
+        byte: byte_of(refusal),
+    })
 }
 
 // The kernel exists, and allows this number of stages.

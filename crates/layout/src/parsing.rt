@@ -18,15 +18,13 @@ pub fn parse<'a>(file: &'a [u8], key: &mut Key) -> Result<Sounding<'a>, FileRefu
     ensures key { MatchResult result (λ _. plan_of key.new ≡ plan_in file.now) (λ _. key.new ≡ key.old) }
 {
     let head = take_head(file)?;
-    let (kind, kernel, count) = (head.kind, head.kernel, head.count);
-    check_count(kernel, count)?;
-    let fields = take_fields(head.rest, count)?;
-    let stages = fields.stages;
-    fill_in(key, kind, kernel, &stages[0..count])?;
+    check_count(head.kernel, head.count)?;
+    let fields = take_fields(head.rest, head.count)?;
+    fill_in(key, head.kind, head.kernel, &fields.stages[..head.count])?;
     Ok(Sounding {
-        kind,
+        kind: head.kind,
         room: fields.room,
-        room_byte: room_byte(count),
+        room_byte: room_byte(head.count),
         records: fields.rest,
     })
 }

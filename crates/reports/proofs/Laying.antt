@@ -30,8 +30,8 @@ length_taps kind [] = sym (mul-zero (width kind))
 length_taps kind (t ∷ ts) = length-append (tap_bytes kind t) _ ∙ ap₂ (λ a b. a + b) (length_tap kind t) (length_taps kind ts) ∙ omega (arith, mul-suc (width kind) (length ts))
 
 -- one more tap
-pub laid_more : (d : List ℕ) (from : ℕ) (kind : KindName) (ts : List (ℤ × ℤ)) (i n : ℕ) (z : ℤ × ℤ) → i < length ts → n ≡ from + width kind * i → from + width kind * length ts ≤ length d → laid (laid d from (flat_map (tap_bytes kind) (take i ts))) n (tap_bytes kind (get_or ts i z)) ≡ laid d from (flat_map (tap_bytes kind) (take (i + 1) ts))
-laid_more d from kind ts i n z l e h =
+pub laid_more : (d : List ℕ) (from : ℕ) (kind : KindName) (ts : List (ℤ × ℤ)) (i : ℕ) (z : ℤ × ℤ) → i < length ts → from + width kind * length ts ≤ length d → laid (laid d from (flat_map (tap_bytes kind) (take i ts))) (from + width kind * i) (tap_bytes kind (get_or ts i z)) ≡ laid d from (flat_map (tap_bytes kind) (take (i + 1) ts))
+laid_more d from kind ts i z l h =
     let k : length (flat_map (tap_bytes kind) (take i ts)) ≡ width kind * i = length_taps kind (take i ts) ∙ ap (λ m. width kind * m) (length-take-le i ts (omega arith)) in
     let m : width kind * i ≤ width kind * length ts = mul-le-mul_left (width kind) (omega arith) in
-    laid_laid d from (flat_map (tap_bytes kind) (take i ts)) (tap_bytes kind (get_or ts i z)) n (omega arith) (omega arith) ∙ ap (laid d from) (flat_map_more (tap_bytes kind) [] (take i ts) (get_or ts i z) ∙ ap (flat_map (tap_bytes kind)) (sym (take_more ts i z l)))
+    laid_laid d from (flat_map (tap_bytes kind) (take i ts)) (tap_bytes kind (get_or ts i z)) (from + width kind * i) (omega arith) (omega arith) ∙ ap (laid d from) (flat_map_more (tap_bytes kind) [] (take i ts) (get_or ts i z) ∙ ap (flat_map (tap_bytes kind)) (sym (take_more ts i z l)))

@@ -1,5 +1,6 @@
 // Which taps a report can hold.
 ghost use Rattle.std.specs.Prelude.{◌≡◌};
+ghost use Rattle.std.specs.List.{position};
 ghost use Rattle.layout.specs.Tests.{first_refusal, unless};
 ghost use Rattle.reports.specs.Reports.{outside, tap_outside, tap_tests};
 
@@ -18,14 +19,19 @@ fn tap_outside(tap: (i64, i64)) -> bool
     is_outside(tap.0) || is_outside(tap.1)
 }
 
+// The index of the first tap that a report can't hold.
+fn first_outside(taps: &[(i64, i64)]) -> Option<usize>
+    ensures { result ≡ position tap_outside taps.now }
+{
+    taps.iter().position(|tap| tap_outside(*tap))
+}
+
 // Every tap is one that a report can hold; `size` is the length of the file.
 pub(crate) fn check_taps(taps: &[(i64, i64)], size: usize) -> Result<(), FileRefusal>
     ensures { result ≡ unless (first_refusal (tap_tests size taps.now)) tt }
 {
-    for (index, tap) in taps.iter().enumerate() {
-        if tap_outside(*tap) {
-            return Err(FileRefusal::Tap { index, byte: size });
-        }
+    match first_outside(taps) {
+        Some(index) => Err(FileRefusal::Tap { index, byte: size }),
+        None => Ok(()),
     }
-    Ok(())
 }

@@ -30,7 +30,7 @@ fn lay(out: &mut [u8], n: usize, bytes: &[u8])
 fn two_bytes(word: i64) -> [u8; 2]
     ensures { result ≡ number_bytes word }
 {
-    let [_, _, _, _, _, _, high, low] = word.to_be_bytes();
+    let [.., high, low] = word.to_be_bytes();
     [high, low]
 }
 
@@ -51,10 +51,8 @@ fn lay_taps(out: &mut [u8], from: usize, kind: KindName, taps: &[(i64, i64)])
     requires { from + width kind * length taps.now ≤ length out.old }
     ensures { out.new ≡ laid out.old from (flat_map (tap_bytes kind) taps.now) }
 {
-    let mut n = from;
-    for tap in taps {
-        lay_tap(out, n, kind, *tap);
-        n += kind.width();
+    for (i, tap) in taps.iter().enumerate() {
+        lay_tap(out, from + kind.width() * i, kind, *tap);
     }
 }
 
@@ -94,10 +92,8 @@ fn write_checked(
     ensures after { out.new ≡ buffer_after (first_refusal (tap_tests size taps.now)) (report_bytes kind (length taps.now) taps.now) out.old }
     ensures within { IfOk result (λ n. n ≤ length out.old) }
 {
-    match check_taps(taps, size) {
-        Ok(()) => Ok(write(out, kind, taps)),
-        Err(refusal) => Err(refusal),
-    }
+    check_taps(taps, size)?;
+    Ok(write(out, kind, taps))
 }
 
 // Writes the report of a room's taps at the front of the buffer, whose rest is kept, and answers its length;
@@ -112,10 +108,9 @@ pub fn write_report(
     ensures after { out.new ≡ buffer_after (first_refusal (report_tests kind taps.now size (length out.old))) (report_bytes kind (length taps.now) taps.now) out.old }
     ensures within { IfOk result (λ n. n ≤ length out.old) }
 {
-    if taps.len() == 0 || taps.len() > 256 {
-        let refusal = Refusal::RoomLength;
+    if taps.is_empty() || taps.len() > 256 {
         return Err(FileRefusal::Sounder {
-            refusal,
+            refusal: Refusal::RoomLength,
             byte: size,
         });
     }

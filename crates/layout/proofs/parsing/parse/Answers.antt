@@ -1,9 +1,6 @@
-use Rattle.std.proofs.Common.{◌≡◌, ◌-◌, List, take, refl, ap, ◌∙◌, arith, rules}
-use native.Mathlib.Nat.{sub-zero}
+use Rattle.std.proofs.Common.{refl, ◌∙◌, arith, rules}
 use Rattle.std.proofs.lemmas.List.{length-take}
 use Rattle.std.proofs.lemmas.Result.{err_from_is_err_and}
-use Rattle.keys.specs.declared.stage.KeyStage.{KeyStage}
-use Rattle.layout.specs.Fields.{stages_in}
 use Rattle.layout.proofs.Orders.{answers_some, answers_none}
 use Rattle.layout.proofs.FileTests.{stops_at_count, stops_at_fields, key_decides, plan_same, room_same, records_same, size_same}
 use Rattle.layout.proofs.parsing.parse.Goals as goal
@@ -31,10 +28,8 @@ returns-in_err-fill_in c =
     let p = err_from_is_err_and c.from_residual-in_err-fill_in.result c.from_residual-in_err-fill_in.ensures.1 in
     let b = answers_none _ tt tt c.in_ok-check_count.ensures in
     let f = c.in_ok-fields.ensures in
-    let part : List KeyStage = take (c.in_ok-head.head.count - 0) c.in_ok-fields.fields.stages in
-    let is : part ≡ stages_in c.in_ok-head.head.rest.now c.in_ok-head.head.count = ap (λ n. take n c.in_ok-fields.fields.stages) (sub-zero _) ∙ f.1.stages_are in
     let k = answers_some _ tt _ c.in_err-fill_in.ensures.answer in
-    rw (p.1, p.2) (record { answer = key_decides c.args.file.now h.0 c.in_ok-head.head h.1 b f.0 part is ∙ k; key = c.in_err-fill_in.ensures.key })
+    rw (p.1, p.2) (record { answer = key_decides c.args.file.now h.0 c.in_ok-head.head h.1 b f.0 _ f.1.stages_are ∙ k; key = c.in_err-fill_in.ensures.key })
 
 pub returns : goal.returns
 returns c =
@@ -43,13 +38,11 @@ returns c =
     let h = c.in_ok-head.ensures in
     let b = answers_none _ tt tt c.in_ok-check_count.ensures in
     let f = c.in_ok-fields.ensures in
-    let part : List KeyStage = take (c.in_ok-head.head.count - 0) c.in_ok-fields.fields.stages in
-    let is : part ≡ stages_in c.in_ok-head.head.rest.now c.in_ok-head.head.count = ap (λ n. take n c.in_ok-fields.fields.stages) (sub-zero _) ∙ f.1.stages_are in
     let k = answers_none _ tt tt c.in_ok-fill_in.ensures.answer in
     let n = h.1.count_is in
     record {
       answer = (
-        key_decides file h.0 head h.1 b f.0 part is ∙ k,
+        key_decides file h.0 head h.1 b f.0 _ f.1.stages_are ∙ k,
         record {
           kind_is = h.1.kind_is;
           room_is = room_same file h.0 head h.1 _ f.1.room_is;
@@ -58,5 +51,5 @@ returns c =
           size_is = size_same file h.0 head h.1 _ f.1.rest_is f.1.enough;
         },
       );
-      key = c.in_ok-fill_in.ensures.key ∙ plan_same file h.0 head h.1 b f.0 part is;
+      key = c.in_ok-fill_in.ensures.key ∙ plan_same file h.0 head h.1 b f.0 _ f.1.stages_are;
     }
