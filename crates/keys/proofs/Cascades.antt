@@ -9,6 +9,7 @@ use Rattle.golay.specs.Stages.{stage_pending}
 use Rattle.golay.proofs.Pushes.{stage_silent}
 use Rattle.keys.specs.declared.key.Key.{Key}
 use Rattle.keys.specs.declared.stage.KeyStage.{KeyStage}
+use Rattle.keys.specs.KernelNames.{number_of}
 use Rattle.keys.specs.Plans.{plan_of, stages_for, at_rest}
 use Rattle.keys.specs.Recursion.{kernel_of}
 use Rattle.keys.proofs.Accepted.{Accepted, accepted, few_stages}
@@ -27,7 +28,7 @@ stage_other roots k i e = sym (ap (λ l. get_or l i at_rest) (cond-false (eqb k.
 
 pub few_for : (roots : ℕ) (k : Key) → length (stages_for roots (plan_of k)) ≤ 7
 few_for roots k =
-    cond_both (eqb k.roots roots) (take k.count k.stages) [] (λ l. length l ≤ 7) (λ e. few_stages k.roots k.kernel (take k.count k.stages) k.sound) (λ e. omega arith)
+    cond_both (eqb k.roots roots) (take k.count k.stages) [] (λ l. length l ≤ 7) (λ e. few_stages k.roots (number_of k.kernel) (take k.count k.stages) k.sound) (λ e. omega arith)
 
 module _ {S : Type 0} (k : KindModel S) where
   abbrev at : List KeyStage → ℕ → Codes S → Codes S
@@ -50,14 +51,14 @@ module _ {S : Type 0} (k : KindModel S) where
       (λ i. over k (p6 i) (over k (p5 i) (over k (p4 i) (over k (p3 i) (over k (p2 i) (over k (p1 i) (over k (p0 i) m))))))) ∙ seven ss m h
 
   -- the codes of a key, for a kind of its number of roots or of another
-  pub key_built : (key : Key) → Built k key.kernel (stages_for k.polar.count (plan_of key)) (built k (stages_for k.polar.count (plan_of key)) (kernel_of k.ring key.kernel))
+  pub key_built : (key : Key) → Built k (number_of key.kernel) (stages_for k.polar.count (plan_of key)) (built k (stages_for k.polar.count (plan_of key)) (kernel_of k.ring (number_of key.kernel)))
   key_built key =
       let stages = take key.count key.stages in
-      let all = accepted key.roots key.kernel stages key.sound in
-      let wanted : List KeyStage → Type 0 = λ ss. Built k key.kernel ss (built k ss (kernel_of k.ring key.kernel)) in
+      let all = accepted key.roots (number_of key.kernel) stages key.sound in
+      let wanted : List KeyStage → Type 0 = λ ss. Built k (number_of key.kernel) ss (built k ss (kernel_of k.ring (number_of key.kernel))) in
       ⊎_elim
-      (λ e. subst wanted (sym (cond-true _ _ _ e)) (built_is k key.kernel stages (subst (λ n. Accepted n key.kernel stages) (eqb-true key.roots k.polar.count e) all)))
-      (λ e. subst wanted (sym (cond-false (eqb key.roots k.polar.count) stages [] e)) (kernel_alone k key.kernel all.kernel_is))
+      (λ e. subst wanted (sym (cond-true _ _ _ e)) (built_is k (number_of key.kernel) stages (subst (λ n. Accepted n (number_of key.kernel) stages) (eqb-true key.roots k.polar.count e) all)))
+      (λ e. subst wanted (sym (cond-false (eqb key.roots k.polar.count) stages [] e)) (kernel_alone k (number_of key.kernel) all.kernel_is))
       (cases_Bool (eqb key.roots k.polar.count))
 
   -- nothing is pending in a new stage over a pair in which nothing is pending

@@ -1,33 +1,26 @@
--- How the loops over the stages come to what is asked of them.
-use Rattle.std.proofs.Common.{◌≡◌, ℕ, suc, ◌+◌, ◌-◌, ◌*◌, ◌<◌, ◌≤◌, true, false, ◌&&◌, ◌||◌, List, length, get_or, drop, Some, None, ap, ◌∙◌, arith}
-use Rattle.std.proofs.lemmas.List.{at_drop_more, at_drop_all}
-use Rattle.std.proofs.lemmas.Bool.{eq-eqb, ne_eqb, lt-ltb, le-ltb, cond-true, cond-false, or_left, and_left}
+-- What is looked for among the stages is what is asked of them.
+use Rattle.std.proofs.Common.{◌≡◌, ℕ, suc, ◌+◌, ◌-◌, ◌*◌, ◌<◌, ◌≤◌, true, false, cond, ◌&&◌, ◌||◌, eqb, leb, ltb, List, [], ◌∷◌, Some, Option, refl, ap, ◌∙◌, arith}
+use Rattle.std.specs.List.{list_any, position, position_from}
+use Rattle.std.proofs.lemmas.Bool.{and_left}
+use Rattle.std.proofs.lemmas.Iterator.Adapters.{position_from-zero}
+use Rattle.std.proofs.lemmas.Bool.Decides.{nat_tests}
 use Rattle.delays.specs.Sets.{doublings, contains, all_in}
 use Rattle.keys.specs.declared.stage.KeyStage.{KeyStage}
 use Rattle.keys.specs.Judged.{delays_of, first_wrong}
 
-abbrev none : KeyStage
-none = record { delay = 0; code = 0 }
+pub contains_is : (d : ℕ) (xs : List KeyStage) → list_any (λ (s : KeyStage). eqb s.delay d) xs ≡ contains d (delays_of xs)
+contains_is d [] = refl
+contains_is d (x ∷ xs) = ap (λ t. eqb x.delay d || t) (contains_is d xs)
 
-module _ (xs : List KeyStage) (i : ℕ) where
-  pub contains_here : (d : ℕ) → i < length xs → (get_or xs i none).delay ≡ d → contains d (delays_of (drop i xs)) ≡ true
-  contains_here d h e = at_drop_more (λ l. contains d (delays_of l)) xs i none h ∙ or_left _ _ (eq-eqb _ d e)
+turned : (code roots : ℕ) (a b : Option ℕ) → cond (leb roots code) a b ≡ cond (ltb code roots) b a
+turned code roots a b = grind (arith, nat_tests)
 
-  pub contains_later : (d : ℕ) → i < length xs → ((get_or xs i none).delay ≡ d → ⊥) → contains d (delays_of (drop i xs)) ≡ contains d (delays_of (drop (i + 1) xs))
-  contains_later d h e =
-      at_drop_more (λ l. contains d (delays_of l)) xs i none h ∙ ap (λ t. t || contains d (delays_of (drop (i + 1) xs))) (ne_eqb _ d e)
+wrong_is : (roots i : ℕ) (xs : List KeyStage) → position_from (λ (s : KeyStage). leb roots s.code) i xs ≡ first_wrong roots i xs
+wrong_is roots i [] = refl
+wrong_is roots i (x ∷ xs) = turned x.code roots _ _ ∙ ap (λ t. cond (ltb x.code roots) t (Some i)) (wrong_is roots (i + 1) xs)
 
-  pub contains_nowhere : (d : ℕ) → length xs ≤ i → contains d (delays_of (drop i xs)) ≡ false
-  contains_nowhere d h = at_drop_all (λ l. contains d (delays_of l)) xs i h
-
-  pub wrong_here : (roots : ℕ) → i < length xs → roots ≤ (get_or xs i none).code → first_wrong roots i (drop i xs) ≡ Some i
-  wrong_here roots h e = at_drop_more (first_wrong roots i) xs i none h ∙ cond-false _ _ _ (le-ltb _ roots e)
-
-  pub wrong_later : (roots : ℕ) → i < length xs → (get_or xs i none).code < roots → first_wrong roots i (drop i xs) ≡ first_wrong roots (i + 1) (drop (i + 1) xs)
-  wrong_later roots h e = at_drop_more (first_wrong roots i) xs i none h ∙ cond-true _ _ _ (lt-ltb _ roots e)
-
-  pub wrong_nowhere : (roots : ℕ) → length xs ≤ i → first_wrong roots i (drop i xs) ≡ None
-  wrong_nowhere roots h = at_drop_all (first_wrong roots i) xs i h
+pub first_is : (roots : ℕ) (xs : List KeyStage) → position (λ (s : KeyStage). leb roots s.code) xs ≡ first_wrong roots 0 xs
+first_is roots xs = position_from-zero (λ (s : KeyStage). leb roots s.code) xs ∙ wrong_is roots 0 xs
 
 -- the products from d on, of which n - i are left
 module _ (n i d : ℕ) (ds : List ℕ) (h : i < n) where

@@ -1,4 +1,5 @@
 pub mod Refusals
 pub mod Judged
+pub mod KernelNames
 pub mod Plans
 pub mod Recursion

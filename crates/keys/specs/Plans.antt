@@ -2,6 +2,7 @@
 use Rattle.std.specs.Prelude.{ℕ, cond, List, [], length, take, Some, None, Option, ◌==◌, nat_lt, slice_index_or}
 use Rattle.keys.specs.declared.stage.KeyStage.{KeyStage}
 use Rattle.keys.specs.declared.key.Key.{Key}
+use Rattle.keys.specs.KernelNames.{number_of}
 
 pub record Plan : Type 0 where
   pub kernel : ℕ
@@ -12,7 +13,7 @@ abbrev pub plan : ℕ → ℕ → List KeyStage → Plan
 plan kernel roots stages = record { kernel = kernel; roots = roots; stages = stages }
 
 abbrev pub plan_of : Key → Plan
-plan_of k = plan k.kernel k.roots (take k.count k.stages)
+plan_of k = plan (number_of k.kernel) k.roots (take k.count k.stages)
 
 -- for a kind with another number of roots than the key was filled for, all stages rest
 abbrev pub stages_for : ℕ → Plan → List KeyStage

@@ -2,9 +2,11 @@ ghost use Rattle.std.specs.Prelude.{◌≡◌, slice_index_or};
 ghost use Rattle.sums.specs.Codes.{silent};
 ghost use Rattle.pairs.specs.Kernels.{kernel_codes, kernel_pending};
 ghost use Rattle.pairs.specs.Cascades.{cascade_codes, cascade_pending};
+ghost use Rattle.keys.specs.KernelNames.{number_of};
 ghost use Rattle.keys.specs.Plans.{plan_of, stages_for, at_rest};
 ghost use Rattle.keys.specs.Recursion.{kernel_of, CascadeOfKey};
 
+use crate::kernel::KernelName;
 use crate::key::Key;
 use crate::stage::KeyStage;
 use kinds::Kind;
@@ -23,19 +25,18 @@ impl Key {
     }
 
     fn kernel_for<K: Kind>(&self) -> Kernel<K>
-        ensures codes { kernel_codes K.Kind result ≡ kernel_of K.Kind.ring self.now.kernel }
+        ensures codes { kernel_codes K.Kind result ≡ kernel_of K.Kind.ring (number_of self.now.kernel) }
         ensures lists { kernel_pending K.Kind result ≡ silent K.Kind.ring }
     {
-        if self.kernel == 10 {
-            Kernel::ten()
-        } else {
-            Kernel::unit()
+        match self.kernel {
+            KernelName::Unit => Kernel::unit(),
+            KernelName::Ten => Kernel::ten(),
         }
     }
 
     // The stages of this key over its kernel.
     fn stages_over<K: Kind>(&self, kernel: Kernel<K>) -> Cascade<K>
-        requires { (kernel_codes K.Kind kernel ≡ kernel_of K.Kind.ring self.now.kernel) × (kernel_pending K.Kind kernel ≡ silent K.Kind.ring) }
+        requires { (kernel_codes K.Kind kernel ≡ kernel_of K.Kind.ring (number_of self.now.kernel)) × (kernel_pending K.Kind kernel ≡ silent K.Kind.ring) }
         ensures { CascadeOfKey K.Kind (plan_of self.now) (cascade_codes K.Kind result) (cascade_pending K.Kind result) }
     {
         let s0 = self.stage_for::<K>(0);

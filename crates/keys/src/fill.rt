@@ -1,8 +1,10 @@
 ghost use Rattle.std.specs.Prelude.{◌≡◌, [], Ok, MatchResult};
 ghost use Rattle.keys.specs.Judged.{judged};
+ghost use Rattle.keys.specs.KernelNames.{number_of};
 ghost use Rattle.keys.specs.Plans.{plan, plan_of};
 
-use crate::check::check_key;
+use crate::check::check_stages;
+use crate::kernel::KernelName;
 use crate::key::Key;
 use crate::refusal::KeyRefusal;
 use crate::stage::KeyStage;
@@ -14,7 +16,7 @@ impl Key {
         ensures { plan_of result ≡ plan 1 2 [] }
     {
         Key {
-            kernel: 1,
+            kernel: KernelName::Unit,
             roots: 2,
             count: 0,
             stages: [KeyStage { delay: 0, code: 0 }; 7],
@@ -22,9 +24,9 @@ impl Key {
     }
 
     // The key of numbers that passed all tests.
-    fn of(kernel: u8, roots: u8, stages: &[KeyStage]) -> Self
-        requires { judged roots kernel stages.now ≡ Ok tt }
-        ensures { plan_of result ≡ plan kernel roots stages.now }
+    fn of(kernel: KernelName, roots: u8, stages: &[KeyStage]) -> Self
+        requires { judged roots (number_of kernel) stages.now ≡ Ok tt }
+        ensures { plan_of result ≡ plan (number_of kernel) roots stages.now }
     {
         let mut held = [KeyStage { delay: 0, code: 0 }; 7];
         for i in 0..stages.len() {
@@ -44,7 +46,8 @@ impl Key {
         ensures key { MatchResult result (λ _. plan_of self.new ≡ plan kernel K.Kind.polar.count stages.now) (λ _. self.new ≡ self.old) }
     {
         let roots = K::root_count();
-        check_key(roots, kernel, stages)?;
+        let kernel = KernelName::try_from(kernel)?;
+        check_stages(kernel, roots, stages)?;
         *self = Key::of(kernel, roots, stages);
         Ok(())
     }

@@ -4,6 +4,7 @@
 mod cascade;
 mod check;
 mod fill;
+mod kernel;
 mod key;
 mod reading;
 mod refusal;

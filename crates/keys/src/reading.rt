@@ -9,7 +9,7 @@ impl Key {
     pub fn kernel(&self) -> u8
         ensures { result ≡ (plan_of self.now).kernel }
     {
-        self.kernel
+        self.kernel.number()
     }
 
     // The number of roots that the key was filled for.

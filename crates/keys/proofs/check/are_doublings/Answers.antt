@@ -14,20 +14,20 @@ all_left kernel ss = let n : length ss - 0 ≡ length (delays_of ss) = (let e = 
 ordered : (r : Bool) (kernel : ℕ) (ds : List ℕ) → r ≡ is_set kernel ds → 1 ≤ kernel → Decides r (InSomeOrder kernel ds)
 ordered r kernel ds e one = Decides-at r (is_set kernel ds) e (set_decides kernel ds one)
 
-pub loop-i-init : goal.loop-i-init
-loop-i-init c = (all_left c.args.least c.args.stages.now, omega arith)
+pub loop-stage-init : goal.loop-stage-init
+loop-stage-init c = (all_left c.args.least c.args.stages.now, omega arith)
 
-pub loop-i-preserved : goal.loop-i-preserved
-loop-i-preserved c =
+pub loop-stage-preserved : goal.loop-stage-preserved
+loop-stage-preserved c =
     let has = c.if-not-has_delay.ensures in
-    (sym (set_goes_on _ _ _ _ c.loop-i-test.true (sym has.value)) ∙ c.loop-i.invariant.0, (let small = has.small refl in omega arith))
+    (sym (set_goes_on _ _ _ _ c.loop-stage-test.true (sym has.value)) ∙ c.loop-stage.invariant.0, (let small = has.small refl in omega arith))
 
 pub returns-then-not-has_delay : goal.returns-then-not-has_delay
 returns-then-not-has_delay c =
-    let e = sym (set_lacks _ _ _ _ c.loop-i-test.true (sym c.if-not-has_delay.ensures.value)) ∙ c.loop-i.invariant.0 in
+    let e = sym (set_lacks _ _ _ _ c.loop-stage-test.true (sym c.if-not-has_delay.ensures.value)) ∙ c.loop-stage.invariant.0 in
     record { value = e; order = ordered _ _ _ e }
 
 pub returns : goal.returns
 returns c =
-    let e = sym (set_ends _ _ _ _ c.loop-i-test.false) ∙ c.loop-i.invariant.0 in
+    let e = sym (set_ends _ _ _ _ c.loop-stage-test.false) ∙ c.loop-stage.invariant.0 in
     record { value = e; order = ordered _ _ _ e }

@@ -1,12 +1,10 @@
-use Rattle.std.proofs.Common.{sym, ◌∙◌}
-use Rattle.keys.proofs.Loops.{wrong_here, wrong_later, wrong_nowhere}
+use Rattle.std.proofs.Common.{leb, ◌∙◌, rules}
+use Rattle.std.proofs.lemmas.Iterator.{YieldsList-from_slice}
+use Rattle.std.proofs.lemmas.Iterator.Search.{position_from_yields_List}
+use Rattle.keys.specs.declared.stage.KeyStage.{KeyStage}
+use Rattle.keys.proofs.Loops.{first_is}
 use Rattle.keys.proofs.check.wrong_code.Goals as goal
 
-pub returns-then-stage-roots : goal.returns-then-stage-roots
-returns-then-stage-roots c = sym (wrong_here _ _ _ c.loop-i-test.true c.if-stage-roots.true) ∙ c.loop-i.invariant
-
-pub loop-i-preserved : goal.loop-i-preserved
-loop-i-preserved c = sym (wrong_later _ _ _ c.loop-i-test.true c.if-stage-roots.false) ∙ c.loop-i.invariant
-
 pub returns : goal.returns
-returns c = sym (wrong_nowhere _ _ _ c.loop-i-test.false) ∙ c.loop-i.invariant
+returns c =
+    position_from_yields_List (λ (s : KeyStage). leb c.args.roots s.code) _ _ _ c.position.ensures.ran (YieldsList-from_slice c.args.stages.now cc) (λ x b q k. search rules) ∙ first_is c.args.roots c.args.stages.now

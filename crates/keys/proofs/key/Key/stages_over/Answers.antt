@@ -2,6 +2,7 @@ use Rattle.std.proofs.Common.{◌≡◌, ℕ, ◌<◌, sym, ap, ◌∙◌, subst
 use Rattle.sums.specs.declared.Side.{Side}
 use Rattle.sums.specs.Codes.{Codes}
 use Rattle.pairs.specs.Cascades.{cascade_codes}
+use Rattle.keys.specs.KernelNames.{number_of}
 use Rattle.keys.specs.Plans.{plan_of, stages_for}
 use Rattle.keys.specs.Recursion.{kernel_of, IsRoot}
 use Rattle.keys.proofs.Built.{Built, over, built, built_roots}
@@ -9,7 +10,7 @@ use Rattle.keys.proofs.Cascades.{few_for, cascade_built, key_built, new_silent}
 use Rattle.keys.proofs.key.Key.stages_over.Given as given
 use Rattle.keys.proofs.key.Key.stages_over.Goals as goal
 
-meaning : (g : given.Over) (c : goal.After-new g) → cascade_codes g.K.Kind c.new.result ≡ built g.K.Kind (stages_for g.K.Kind.polar.count (plan_of c.args.self.now)) (kernel_of g.K.Kind.ring c.args.self.now.kernel)
+meaning : (g : given.Over) (c : goal.After-new g) → cascade_codes g.K.Kind c.new.result ≡ built g.K.Kind (stages_for g.K.Kind.polar.count (plan_of c.args.self.now)) (kernel_of g.K.Kind.ring (number_of c.args.self.now.kernel))
 meaning g c =
     let k = g.K.Kind in
     let key = c.args.self.now in
@@ -31,14 +32,14 @@ returns g c =
     let ss = stages_for k.polar.count (plan_of key) in
     let is = sym (meaning g c) in
     let whole = key_built k key in
-    let codes = subst (Built k key.kernel ss) is whole in
+    let codes = subst (Built k (number_of key.kernel) ss) is whole in
     let below = new_silent k laws.algebra laws.conjugation in
     record {
       code = codes.entry_is;
       span = codes.span_is;
       energy = codes.energy_is;
       counts = codes.counts_are;
-      roots = subst (λ (m : Codes g.row.K.Denot). (side : Side) (j : ℕ) → j < m.span → IsRoot k.polar (m.entry side j)) is (built_roots k laws.algebra laws.conjugation laws.unity key.kernel ss whole);
+      roots = subst (λ (m : Codes g.row.K.Denot). (side : Side) (j : ℕ) → j < m.span → IsRoot k.polar (m.entry side j)) is (built_roots k laws.algebra laws.conjugation laws.unity (number_of key.kernel) ss whole);
       lists = c.new.ensures.lists
           ∙ below _ _ _ (c.new-six.ensures.lists
           ∙ below _ _ _ (c.new-five.ensures.lists
