@@ -1,10 +1,11 @@
 // The texts of lines, of answers and of refusals.
 ghost use Rattle.std.specs.Prelude.{◌≡◌, ◌++◌, IfOk, string_bytes, codes, OnOk};
-ghost use Rattle.scripts.specs.Texts.{all_now, behind, line_of, answered, two_words, refusal_with, key_refusal_of, refusal_of, answer_of};
+ghost use Rattle.keys.specs.Refusals.{refusal_text};
+ghost use Rattle.calls.specs.Texts.{answer_text};
+ghost use Rattle.scripts.specs.Texts.{all_now, behind, line_of, answered};
 
-use calls::{Answer, Refusal};
+use calls::Answer;
 use keys::KeyRefusal;
-use refusals::Refused;
 use std::alloc::{AllocError, Global};
 
 // Puts a blank and a word behind the text.
@@ -43,39 +44,16 @@ pub fn answered(heap: Global, line: &str, answer: &str) -> Result<String, AllocE
     format!(in heap; "{line} = {answer}\n")
 }
 
-fn two_words(heap: Global, first: i64, second: i64) -> Result<String, AllocError>
-    ensures { IfOk result (λ s. string_bytes s ≡ two_words first second) }
-{
-    format!(in heap; "{first} {second}")
-}
-
-fn refusal_with(heap: Global, number: u8, layer: u8, place: usize) -> Result<String, AllocError>
-    ensures { IfOk result (λ s. string_bytes s ≡ refusal_with number layer place) }
-{
-    format!(in heap; "refused {number} layer {layer} place {place}")
-}
-
 // Why a key is refused.
 pub fn key_refusal_text(heap: Global, refusal: KeyRefusal) -> Result<String, AllocError>
-    ensures { IfOk result (λ s. string_bytes s ≡ key_refusal_of refusal) }
+    ensures { IfOk result (λ s. string_bytes s ≡ refusal_text refusal) }
 {
-    refusal_with(heap, refusal.number(), refusal.layer(), refusal.place()) // of a key
-}
-
-// Why a call is refused.
-fn refusal_text(heap: Global, refusal: Refusal) -> Result<String, AllocError>
-    ensures { IfOk result (λ s. string_bytes s ≡ refusal_of refusal) }
-{
-    refusal_with(heap, refusal.number(), refusal.layer(), refusal.place()) // of a call
+    refusal.to_string(heap)
 }
 
 // What a call answers.
 pub fn answer_text(heap: Global, answer: Answer) -> Result<String, AllocError>
-    ensures { IfOk result (λ s. string_bytes s ≡ answer_of answer) }
+    ensures { IfOk result (λ s. string_bytes s ≡ answer_text answer) }
 {
-    match answer {
-        Answer::Done => String::from_str(heap, "ok"),
-        Answer::Words(first, second) => two_words(heap, first, second),
-        Answer::Refused(refusal) => refusal_text(heap, refusal),
-    }
+    answer.to_string(heap)
 }
