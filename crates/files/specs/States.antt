@@ -1,5 +1,5 @@
 -- What a sounder holds while it is given the calls of a sounding.
-use Rattle.std.specs.Prelude.{◌≡◌, ℕ, ◌≤◌, true, List, [], ◌∷◌, take, ℤ}
+use Rattle.std.specs.Prelude.{◌≡◌, ℕ, ◌≤◌, true, List, [], ◌∷◌, ℤ}
 use Rattle.kinds.specs.Kinds.{KindModel}
 use Rattle.sums.specs.Codes.{Codes}
 use Rattle.calls.specs.declared.phase.Phase.TheVariants.{FirstRecord}
@@ -37,7 +37,7 @@ pub record Took {S : Type 0} (n : ℕ) (s t : State S) : Type 0 where
 
 -- what comes of a sounding that is accepted: the taps, as many as the room length says, and a buffer that has place for their report
 pub record Sounded {S : Type 0} (k : KindModel S) (c : Codes S) (kind : KindName) (room : ℕ) (records : List ℕ) (space : ℕ) (t : List (ℤ × ℤ)) : Type 0 where
-  pub taps_are : take room t ≡ taps k c kind room records
+  pub taps_are : t ≡ taps k c kind room records
   pub room_least : 1 ≤ room
   pub room_most : room ≤ 256
   pub placed : report_length kind room ≤ space

@@ -7,56 +7,45 @@ ghost use Rattle.layout.specs.Tests.{first_refusal, unless, Ordered};
 ghost use Rattle.reports.specs.Reports.{buffer_after};
 ghost use Rattle.files.specs.Files.{tests_over, report_over, LawsOver, tests_for, report_for, LawsFor, file_tests, input_tests, report_of, ReportLaws, Reports};
 
-use crate::sounding::sound;
+use crate::sounding::{SoundingFile, sound};
 use keys::Key;
-use kinds::{Kind, KindName};
 use kinds::hall::Hall;
 use kinds::radio::Radio;
-use layout::{FileRefusal, Sounding, parse};
+use kinds::{Kind, KindName};
+use layout::{FileRefusal, parse};
 use pairs::Pair;
 use reports::write_report;
 
-// Sounds the records of a file over a new pair, and writes the report. `size` is the length of the file.
+// Sounds the records of a file over a new pair, and writes the report.
 fn report_over<P: Pair + Drop>(
     pair: P,
-    sounding: Sounding<'_>,
-    size: usize,
+    file: SoundingFile<'_>,
     out: &mut [u8],
 ) -> Result<usize, FileRefusal>
-    requires { sounding.room_byte + 2 + length sounding.records.now ≡ size }
-    ensures { Reports (tests_over P.Sample.Kind (codes_of P.Pair pair) sounding.entry size (length out.old)) (report_over P.Sample.Kind (codes_of P.Pair pair) sounding.entry) (LawsOver P.Sample.Kind (codes_of P.Pair pair) sounding.entry) result out.old out.new }
+    ensures { Reports (tests_over P.Sample.Kind (codes_of P.Pair pair) file.entry.fields file.entry.size (length out.old)) (report_over P.Sample.Kind (codes_of P.Pair pair) file.entry.fields) (LawsOver P.Sample.Kind (codes_of P.Pair pair) file.entry.fields) result out.old out.new }
 {
-    let (kind, room) = (sounding.kind, sounding.room);
-    let taps = sound(pair, sounding, size, out.len())?;
-    write_report(out, kind, &taps[0..room], size)
+    let taps = sound(pair, file, out.len())?;
+    write_report(out, file.fields.kind, taps.as_slice(), file.size)
 }
 
 // The same over the pair of a key, for the kind K.
 fn report_as<K: Kind>(
     key: &Key,
-    sounding: Sounding<'_>,
-    size: usize,
+    file: SoundingFile<'_>,
     out: &mut [u8],
 ) -> Result<usize, FileRefusal>
-    requires { sounding.room_byte + 2 + length sounding.records.now ≡ size }
-    ensures { Reports (tests_over K.Kind (key_codes K.Kind (plan_of key.now)) sounding.entry size (length out.old)) (report_over K.Kind (key_codes K.Kind (plan_of key.now)) sounding.entry) (LawsOver K.Kind (key_codes K.Kind (plan_of key.now)) sounding.entry) result out.old out.new }
+    ensures { Reports (tests_over K.Kind (key_codes K.Kind (plan_of key.now)) file.entry.fields file.entry.size (length out.old)) (report_over K.Kind (key_codes K.Kind (plan_of key.now)) file.entry.fields) (LawsOver K.Kind (key_codes K.Kind (plan_of key.now)) file.entry.fields) result out.old out.new }
 {
-    report_over(key.cascade::<K>(), sounding, size, out)
+    report_over(key.cascade::<K>(), file, out)
 }
 
 // The same for the kind that the file names.
-fn report_by_kind(
-    key: &Key,
-    sounding: Sounding<'_>,
-    size: usize,
-    out: &mut [u8],
-) -> Result<usize, FileRefusal>
-    requires { sounding.room_byte + 2 + length sounding.records.now ≡ size }
-    ensures { Reports (tests_for (plan_of key.now) sounding.entry.room sounding.entry.records.now sounding.entry.kind sounding.entry.room_byte size (length out.old)) (report_for (plan_of key.now) sounding.entry.room sounding.entry.records.now sounding.entry.kind) (LawsFor (plan_of key.now) sounding.entry.room sounding.entry.records.now sounding.entry.kind) result out.old out.new }
+fn report_by_kind(key: &Key, file: SoundingFile<'_>, out: &mut [u8]) -> Result<usize, FileRefusal>
+    ensures { Reports (tests_for (plan_of key.now) file.entry.fields.room file.entry.fields.records.now file.entry.fields.kind file.entry.fields.room_byte file.entry.size (length out.old)) (report_for (plan_of key.now) file.entry.fields.room file.entry.fields.records.now file.entry.fields.kind) (LawsFor (plan_of key.now) file.entry.fields.room file.entry.fields.records.now file.entry.fields.kind) result out.old out.new }
 {
-    match sounding.kind {
-        KindName::Hall => report_as::<Hall>(key, sounding, size, out),
-        KindName::Radio => report_as::<Radio>(key, sounding, size, out),
+    match file.fields.kind {
+        KindName::Hall => report_as::<Hall>(key, file, out),
+        KindName::Radio => report_as::<Radio>(key, file, out),
     }
 }
 
@@ -70,8 +59,9 @@ pub fn report(file: &[u8], out: &mut [u8]) -> Result<usize, FileRefusal>
     ensures laws { OnOk result (ReportLaws file.now) }
 {
     let mut key = Key::built_in();
-    let sounding = parse(file, &mut key)?;
-    report_by_kind(&key, sounding, file.len(), out)
+    let fields = parse(file, &mut key)?;
+    let size = file.len();
+    report_by_kind(&key, SoundingFile { fields, size }, out)
 }
 
 // Whether a program refuses to look at an input.

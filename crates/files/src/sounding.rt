@@ -10,13 +10,22 @@ ghost use Rattle.files.specs.Order.{sample_tests, record_tests};
 ghost use Rattle.files.specs.States.{led, Begun, Sounded};
 
 use crate::feeding::{at_byte, feed};
+use crate::samples::Record;
 use crate::taps::gather;
+use arrayvec::ArrayVec;
 use calls::Phase;
-use kinds::KindName;
 use layout::{FileRefusal, Sounding};
 use pairs::Pair;
 use reports::report_length;
 use sounder::Sounder;
+
+// A sounding file that was read: its fields, and its length.
+#[derive(Clone, Copy)]
+pub(crate) struct SoundingFile<'a> {
+    pub fields: Sounding<'a>,
+    pub size: usize,
+    ghost sized: { fields.room_byte + 2 + length fields.records.now ≡ size },
+}
 
 // What follows the first record.
 fn behind_first(records: &[u8], size: usize) -> &[u8]
@@ -26,53 +35,56 @@ fn behind_first(records: &[u8], size: usize) -> &[u8]
     records.split_at(size).1
 }
 
-// Gives both records, of `count` samples each, to a sounder whose first record is begun; they begin at byte `from` of the file.
-fn take_records<P: Pair>(
-    sounder: &mut Sounder<P>,
-    kind: KindName,
-    records: &[u8],
-    count: usize,
-    from: usize,
-) -> Result<(), FileRefusal>
-    requires { (Begun P.Sample.Kind count (state_of P.Sample.Kind P.Pair sounder.old)) × ((length records.now ≡ 2 * (width kind * count)) × (from + length records.now < 2 ^ 64)) }
-    ensures value { result ≡ unless (first_refusal (sample_tests P.Sample.Kind (state_of P.Sample.Kind P.Pair sounder.old).codes kind from (samples_in kind records.now count) ++ sample_tests P.Sample.Kind (state_of P.Sample.Kind P.Pair sounder.old).codes kind (from + width kind * count) (samples_in kind (drop (width kind * count) records.now) count))) tt }
-    ensures state { OnOk result (state_of P.Sample.Kind P.Pair sounder.new ≡ led P.Sample.Kind (record_calls (samples_in kind records.now count) (samples_in kind (drop (width kind * count) records.now) count)) (state_of P.Sample.Kind P.Pair sounder.old)) }
+// Gives both records to a sounder whose first record is begun: the first, and the one of as many samples behind it.
+fn take_records<P: Pair>(sounder: &mut Sounder<P>, first: Record<'_>) -> Result<(), FileRefusal>
+    requires { (Begun P.Sample.Kind first.count (state_of P.Sample.Kind P.Pair sounder.old)) × ((length first.bytes.now ≡ 2 * (width first.kind * first.count)) × (first.from + length first.bytes.now < 2 ^ 64)) }
+    ensures value { result ≡ unless (first_refusal (sample_tests P.Sample.Kind (state_of P.Sample.Kind P.Pair sounder.old).codes first.entry.kind first.entry.from (samples_in first.entry.kind first.entry.bytes.now first.entry.count) ++ sample_tests P.Sample.Kind (state_of P.Sample.Kind P.Pair sounder.old).codes first.entry.kind (first.entry.from + width first.entry.kind * first.entry.count) (samples_in first.entry.kind (drop (width first.entry.kind * first.entry.count) first.entry.bytes.now) first.entry.count))) tt }
+    ensures state { OnOk result (state_of P.Sample.Kind P.Pair sounder.new ≡ led P.Sample.Kind (record_calls (samples_in first.entry.kind first.entry.bytes.now first.entry.count) (samples_in first.entry.kind (drop (width first.entry.kind * first.entry.count) first.entry.bytes.now) first.entry.count)) (state_of P.Sample.Kind P.Pair sounder.old)) }
     ensures ended { OnOk result (((state_of P.Sample.Kind P.Pair sounder.new).phase ≡ Phase.Complete) × ((state_of P.Sample.Kind P.Pair sounder.new).room ≡ (state_of P.Sample.Kind P.Pair sounder.old).room)) }
 {
-    let size = kind.width() * count;
-    feed(sounder, kind, records, count, from)?;
-    at_byte(sounder.turn(), from + size)?;
-    feed(
-        sounder,
-        kind,
-        behind_first(records, size),
-        count,
-        from + size,
-    )?;
-    at_byte(sounder.close(), from + 2 * size)
+    let size = first.kind.width() * first.count;
+    let second = Record {
+        kind: first.kind,
+        bytes: behind_first(first.bytes, size),
+        count: first.count,
+        from: first.from + size,
+    };
+    feed(sounder, first)?;
+    at_byte(sounder.turn(), second.from)?;
+    feed(sounder, second)?;
+    at_byte(sounder.close(), second.from + size)
 }
 
-// Sounds the records of a file over a new pair, and gathers the taps. `size` is the length of the file, `space` that of the report's buffer.
+// Sounds the records of a file over a new pair, and gathers the taps. `space` is the length of the report's buffer.
 pub(crate) fn sound<P: Pair + Drop>(
     pair: P,
-    sounding: Sounding<'_>,
-    size: usize,
+    file: SoundingFile<'_>,
     space: usize,
-) -> Result<[(i64, i64); 256], FileRefusal>
-    requires { sounding.room_byte + 2 + length sounding.records.now ≡ size }
-    ensures { Decided (record_tests P.Sample.Kind (codes_of P.Pair pair) sounding.entry.kind sounding.entry.room sounding.entry.records.now sounding.entry.room_byte size space) result (λ t. Sounded P.Sample.Kind (codes_of P.Pair pair) sounding.entry.kind sounding.entry.room sounding.entry.records.now space t) }
+) -> Result<ArrayVec<(i64, i64), 256>, FileRefusal>
+    ensures { Decided (record_tests P.Sample.Kind (codes_of P.Pair pair) file.entry.fields.kind file.entry.fields.room file.entry.fields.records.now file.entry.fields.room_byte file.entry.size space) result (λ t. Sounded P.Sample.Kind (codes_of P.Pair pair) file.entry.fields.kind file.entry.fields.room file.entry.fields.records.now space t.items) }
 {
-    let (kind, room, at) = (sounding.kind, sounding.room, sounding.room_byte);
+    let Sounding {
+        kind,
+        room,
+        room_byte: at,
+        records: bytes,
+    } = file.fields;
     let span = pair.span();
     let mut sounder = Sounder::new(pair);
     at_byte(sounder.open(room), at)?;
     let count = span + room - 1;
-    if sounding.records.len() != 2 * (kind.width() * count) {
+    if bytes.len() != 2 * (kind.width() * count) {
         return Err(FileRefusal::Length { byte: at + 2 });
     }
     if space < report_length(kind, room as u16) {
-        return Err(FileRefusal::Buffer { byte: size });
+        return Err(FileRefusal::Buffer { byte: file.size });
     }
-    take_records(&mut sounder, kind, sounding.records, count, at + 2)?;
+    let first = Record {
+        kind,
+        bytes,
+        count,
+        from: at + 2,
+    };
+    take_records(&mut sounder, first)?;
     Ok(gather(&sounder, room))
 }

@@ -11,7 +11,7 @@ abbrev pub invariant-loop-t : goal.invariant-loop-t
 invariant-loop-t g l =
     let k = g.P.Sample.Kind in
     let was = state_of k g.P.Pair l.initial.sounder in
-    let xs = samples_in l.kind l.bytes l.count in
-    (first_refusal (each (sample_test k was.codes l.kind l.from) l.t (drop l.t xs)) ≡ first_refusal (sample_tests k was.codes l.kind l.from xs))
+    let xs = samples_in l.samples.kind l.samples.bytes.now l.samples.count in
+    (first_refusal (each (sample_test k was.codes l.samples.kind l.samples.from) l.t (drop l.t xs)) ≡ first_refusal (sample_tests k was.codes l.samples.kind l.samples.from xs))
     × (state_of k g.P.Pair l.sounder ≡ led k (sample_calls (take l.t xs)) was)
     × Took l.t was (state_of k g.P.Pair l.sounder)

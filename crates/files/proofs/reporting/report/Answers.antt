@@ -12,18 +12,18 @@ use Rattle.files.specs.Files.{tests_for, report_for, LawsFor, file_tests, report
 use Rattle.files.proofs.Answers.{refuses, keeps}
 use Rattle.files.proofs.reporting.report.Goals as goal
 
-pub returns-in_err-sounding : goal.returns-in_err-sounding
-returns-in_err-sounding c =
+pub returns-in_err-fields : goal.returns-in_err-fields
+returns-in_err-fields c =
     let file = c.args.file.now in
     let out = c.args.out.now in
     let p = err_from_is_err_and c.from_residual.result c.from_residual.ensures.1 in
     let all = file_tests file (length out) in
     let rest = tests_for (plan_in file) (room_of file) (records_of file) (kind_of file) (room_byte_of file) (length file) (length out) in
-    let e : first_refusal all ≡ Some c.in_err-sounding.field-0.0 = stopped (layout_tests file) rest c.in_err-sounding.field-0.0 c.in_err-sounding.ensures.answer in
+    let e : first_refusal all ≡ Some c.in_err-fields.field-0.0 = stopped (layout_tests file) rest c.in_err-fields.field-0.0 c.in_err-fields.ensures.answer in
     rw (p.1, p.2) (record {
-      order = comes all c.in_err-sounding.field-0.0 e;
-      value = refuses (first_refusal all) (length (report_of file)) c.in_err-sounding.field-0.0 e;
-      after = keeps (first_refusal all) (report_of file) out c.in_err-sounding.field-0.0 e;
+      order = comes all c.in_err-fields.field-0.0 e;
+      value = refuses (first_refusal all) (length (report_of file)) c.in_err-fields.field-0.0 e;
+      after = keeps (first_refusal all) (report_of file) out c.in_err-fields.field-0.0 e;
       within = tt;
       laws = tt;
     })
@@ -32,10 +32,10 @@ pub returns : goal.returns
 returns c =
     let file = c.args.file.now in
     let out = c.args.out.now in
-    let s = c.in_ok-sounding.sounding in
-    let parsed = c.in_ok-sounding.ensures.answer in
+    let s = c.in_ok-fields.fields in
+    let parsed = c.in_ok-fields.ensures.answer in
     let F = parsed.1 in
-    let P : plan_of c.parse.new.key ≡ plan_in file = c.in_ok-sounding.ensures.key in
+    let P : plan_of c.parse.new.key ≡ plan_in file = c.in_ok-fields.ensures.key in
     let all = file_tests file (length out) in
     let rest = tests_for (plan_in file) (room_of file) (records_of file) (kind_of file) (room_byte_of file) (length file) (length out) in
     let past : first_refusal all ≡ first_refusal rest = passed (layout_tests file) rest parsed.0 in

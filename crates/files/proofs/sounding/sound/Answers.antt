@@ -36,8 +36,8 @@ returns-in_err-at_byte g c =
     let p = err_from_is_err_and c.from_residual.result c.from_residual.ensures.1 in
     let e = answers_some _ tt c.in_err-at_byte.field-0.0 c.in_err-at_byte.ensures in
     let idle : s.phase ≡ Idle = ap (λ (t : State g.row.P-Sample.Denot). t.phase) c.new-sounder.ensures.value in
-    let said = c.open.ensures.value ∙ open_says k s d c.args.sounding.room idle in
-    rw (p.1, p.2) (stops_at_open k d c.args.sounding.kind c.args.sounding.room c.args.sounding.records.now c.args.sounding.room_byte c.args.size c.args.space c.in_err-at_byte.field-0.0 (ap (λ (r : Answer). first_refusal (sounder_says c.args.sounding.room_byte r)) (sym said) ∙ e))
+    let said = c.open.ensures.value ∙ open_says k s d c.args.file.fields.room idle in
+    rw (p.1, p.2) (stops_at_open k d c.args.file.fields.kind c.args.file.fields.room c.args.file.fields.records.now c.args.file.fields.room_byte c.args.file.size c.args.space c.in_err-at_byte.field-0.0 (ap (λ (r : Answer). first_refusal (sounder_says c.args.file.fields.room_byte r)) (sym said) ∙ e))
 
 -- what holds once the sounder is opened: s is its state when it was new, v after the call
 record Opened (g : given.Over) (d : Codes g.row.P-Sample.Denot) (span room at : ℕ) (s v : State g.row.P-Sample.Denot) : Type 0 where
@@ -71,36 +71,36 @@ take_records-requires g c =
     let s = state_of k g.P.Pair c.new-sounder.result in
     let v = state_of k g.P.Pair c.open.new.self in
     let value = c.new-sounder.ensures.value in
-    let O = opened g (codes_of g.P.Pair c.args.pair) c.span-span.result c.args.sounding.room c.args.sounding.room_byte s v (done c.open.result) (ap (λ (t : State g.row.P-Sample.Denot). t.codes) value) (ap (λ (t : State g.row.P-Sample.Denot). t.phase) value) c.span-span.ensures.value c.open.ensures.value c.open.ensures.after (answers_none _ tt tt c.in_ok-at_byte.ensures) in
-    (O.begun, (c.if-sounding-width.false ∙ ap (λ w. 2 * (w * (c.span-span.result + c.args.sounding.room - 1))) c.width.ensures, omega arith))
+    let O = opened g (codes_of g.P.Pair c.args.pair) c.span-span.result c.args.file.fields.room c.args.file.fields.room_byte s v (done c.open.result) (ap (λ (t : State g.row.P-Sample.Denot). t.codes) value) (ap (λ (t : State g.row.P-Sample.Denot). t.phase) value) c.span-span.ensures.value c.open.ensures.value c.open.ensures.after (answers_none _ tt tt c.in_ok-at_byte.ensures) in
+    (O.begun, (c.if-bytes-width.false ∙ ap (λ w. 2 * (w * (c.span-span.result + c.args.file.fields.room - 1))) c.width.ensures, omega arith))
 
 pub returns-in_err-take_records : goal.returns-in_err-take_records
 returns-in_err-take_records g c =
     let k = g.P.Sample.Kind in
     let d = codes_of g.P.Pair c.args.pair in
-    let room = c.args.sounding.room in
-    let kind = c.args.sounding.kind in
-    let at = c.args.sounding.room_byte in
-    let records = c.args.sounding.records.now in
-    let n = c.span-span.result + c.args.sounding.room - 1 in
+    let room = c.args.file.fields.room in
+    let kind = c.args.file.fields.kind in
+    let at = c.args.file.fields.room_byte in
+    let records = c.args.file.fields.records.now in
+    let n = c.span-span.result + c.args.file.fields.room - 1 in
     let s = state_of k g.P.Pair c.new-sounder.result in
     let v = state_of k g.P.Pair c.open.new.self in
     let value = c.new-sounder.ensures.value in
     let O = opened g d c.span-span.result room at s v (done c.open.result) (ap (λ (t : State g.row.P-Sample.Denot). t.codes) value) (ap (λ (t : State g.row.P-Sample.Denot). t.phase) value) c.span-span.ensures.value c.open.ensures.value c.open.ensures.after (answers_none _ tt tt c.in_ok-at_byte.ensures) in
-    let l : length records ≡ 2 * (width kind * n) = c.if-sounding-width.false ∙ ap (λ w. 2 * (w * n)) c.width.ensures in
+    let l : length records ≡ 2 * (width kind * n) = c.if-bytes-width.false ∙ ap (λ w. 2 * (w * n)) c.width.ensures in
     let p = err_from_is_err_and c.from_residual-in_err-take_records.result c.from_residual-in_err-take_records.ensures.1 in
-    let e = answers_some (first_refusal (samples_by k d kind room records at c.args.size c.args.space v.codes n)) tt c.in_err-take_records.field-0.0 c.in_err-take_records.ensures.value in
-    rw (p.1, p.2) (samples_decide k d kind room records at c.args.size c.args.space O.says_open n O.count_is v.codes O.codes_are l (omega arith) ∙ e)
+    let e = answers_some (first_refusal (samples_by k d kind room records at c.args.file.size c.args.space v.codes n)) tt c.in_err-take_records.field-0.0 c.in_err-take_records.ensures.value in
+    rw (p.1, p.2) (samples_decide k d kind room records at c.args.file.size c.args.space O.says_open n O.count_is v.codes O.codes_are l (omega arith) ∙ e)
 
 pub returns : goal.returns
 returns g c =
     let k = g.P.Sample.Kind in
     let d = codes_of g.P.Pair c.args.pair in
-    let room = c.args.sounding.room in
-    let kind = c.args.sounding.kind in
-    let at = c.args.sounding.room_byte in
-    let records = c.args.sounding.records.now in
-    let n = c.span-span.result + c.args.sounding.room - 1 in
+    let room = c.args.file.fields.room in
+    let kind = c.args.file.fields.kind in
+    let at = c.args.file.fields.room_byte in
+    let records = c.args.file.fields.records.now in
+    let n = c.span-span.result + c.args.file.fields.room - 1 in
     let s = state_of k g.P.Pair c.new-sounder.result in
     let v = state_of k g.P.Pair c.open.new.self in
     let u = state_of k g.P.Pair c.take_records.new.sounder in
@@ -108,8 +108,8 @@ returns g c =
     let codes = ap (λ (t : State g.row.P-Sample.Denot). t.codes) value in
     let idle = ap (λ (t : State g.row.P-Sample.Denot). t.phase) value in
     let O = opened g d c.span-span.result room at s v (done c.open.result) codes idle c.span-span.ensures.value c.open.ensures.value c.open.ensures.after (answers_none _ tt tt c.in_ok-at_byte.ensures) in
-    let l : length records ≡ 2 * (width kind * n) = c.if-sounding-width.false ∙ ap (λ w. 2 * (w * n)) c.width.ensures in
-    let e = answers_none (first_refusal (samples_by k d kind room records at c.args.size c.args.space v.codes n)) tt tt c.in_ok-take_records.ensures.value in
+    let l : length records ≡ 2 * (width kind * n) = c.if-bytes-width.false ∙ ap (λ w. 2 * (w * n)) c.width.ensures in
+    let e = answers_none (first_refusal (samples_by k d kind room records at c.args.file.size c.args.space v.codes n)) tt tt c.in_ok-take_records.ensures.value in
     let K = laws g in
     let P = c.new-sounder.ensures.laws in
     let start = g.P.Pair.pending c.args.pair in
@@ -119,7 +119,7 @@ returns g c =
     c.in_ok-take_records.ensures.state ∙ (λ j. led k (record_calls (samples_in kind records (O.count_is j)) (samples_in kind (drop (width kind * O.count_is j) records) (O.count_is j))) (c.open.ensures.after j)) in
     let phase : (led k xs s).phase ≡ Complete = ap (λ (t : State g.row.P-Sample.Denot). t.phase) (sym u-is) ∙ c.in_ok-take_records.ensures.ended.0 in
     let room_is : (led k xs s).room ≡ room = ap (λ (t : State g.row.P-Sample.Denot). t.room) (sym u-is) ∙ c.in_ok-take_records.ensures.ended.1 ∙ O.room_is in (
-      samples_decide k d kind room records at c.args.size c.args.space O.says_open n O.count_is v.codes O.codes_are l (omega arith) ∙ e,
+      samples_decide k d kind room records at c.args.file.size c.args.space O.says_open n O.count_is v.codes O.codes_are l (omega arith) ∙ e,
       record {
         taps_are = c.gather.ensures ∙ taps_are k K d start P xs s T u u-is (range_with_len 0 room);
         room_least = O.least;

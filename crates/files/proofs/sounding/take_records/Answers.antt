@@ -1,5 +1,4 @@
-use Rattle.std.proofs.Common.{◌≡◌, ℕ, ◌+◌, ◌*◌, List, length, drop, sym, ap, ◌∙◌, subst, arith}
-use Rattle.std.proofs.lemmas.List.{length-drop}
+use Rattle.std.proofs.Common.{◌≡◌, ℕ, ◌+◌, ◌*◌, List, drop, sym, ap, ◌∙◌, subst}
 use Rattle.std.proofs.lemmas.Result.{err_from_is_err_and}
 use Rattle.sums.specs.Codes.{Codes}
 use Rattle.calls.specs.declared.call.Call.TheVariants.{Turn, Close}
@@ -38,8 +37,8 @@ pub returns-in_err-feed : goal.returns-in_err-feed
 returns-in_err-feed g c =
     let codes = (state_of g.P.Sample.Kind g.P.Pair c.args.sounder.now).codes in
     let p = err_from_is_err_and c.from_residual.result c.from_residual.ensures.1 in
-    let one = first_tests g codes c.args.kind c.args.records.now c.args.count c.args.from in
-    let two = second_tests g codes c.args.kind c.args.records.now c.args.count c.args.from in
+    let one = first_tests g codes c.args.first.kind c.args.first.bytes.now c.args.first.count c.args.first.from in
+    let two = second_tests g codes c.args.first.kind c.args.first.bytes.now c.args.first.count c.args.first.from in
     let e = answers_some (first_refusal one) tt c.in_err-feed.field-0.0 c.in_err-feed.ensures.value in
     rw (p.1, p.2) (record { value = sym (ap (λ o. unless o tt) (stopped one two c.in_err-feed.field-0.0 e)); state = tt; ended = tt })
 
@@ -48,7 +47,7 @@ returns-in_err-at_byte g c =
     let k = g.P.Sample.Kind in
     let s = state_of k g.P.Pair c.args.sounder.now in
     let t = state_of k g.P.Pair c.feed.new.sounder in
-    let d : done c.turn.result ≡ Done = c.turn.ensures.value ∙ turns k c.args.count s t c.requires.0 c.in_ok-feed.ensures.taken in
+    let d : done c.turn.result ≡ Done = c.turn.ensures.value ∙ turns k c.args.first.count s t c.requires.0 c.in_ok-feed.ensures.taken in
     absurd (not_refused _ _ _ d (answers_some _ tt _ c.in_err-at_byte.ensures))
 
 pub feed-requires-2 : goal.feed-requires-2
@@ -56,10 +55,7 @@ feed-requires-2 g c =
     let k = g.P.Sample.Kind in
     let s = state_of k g.P.Pair c.args.sounder.now in
     let t = state_of k g.P.Pair c.feed.new.sounder in
-    let w = width c.args.kind * c.args.count in
-    let v : c.width.result * c.args.count ≡ w = ap (λ n. n * c.args.count) c.width.ensures in
-    let r = ap length (c.behind_first.ensures ∙ ap (λ n. drop n c.args.records.now) v) ∙ length-drop w c.args.records.now in
-    (subst (Ready k c.args.count) (sym c.turn.ensures.after) (turned_ready k c.args.count s t c.requires.0 c.in_ok-feed.ensures.taken), (omega arith, omega arith))
+    subst (Ready k c.args.first.count) (sym c.turn.ensures.after) (turned_ready k c.args.first.count s t c.requires.0 c.in_ok-feed.ensures.taken)
 
 pub returns-in_err-feed-2 : goal.returns-in_err-feed-2
 returns-in_err-feed-2 g c =
@@ -67,9 +63,9 @@ returns-in_err-feed-2 g c =
     let s = state_of k g.P.Pair c.args.sounder.now in
     let t = state_of k g.P.Pair c.feed.new.sounder in
     let p = err_from_is_err_and c.from_residual-in_err-feed-2.result c.from_residual-in_err-feed-2.ensures.1 in
-    let one = first_tests g s.codes c.args.kind c.args.records.now c.args.count c.args.from in
-    let two = second_tests g s.codes c.args.kind c.args.records.now c.args.count c.args.from in
-    let same = second_same g s.codes c.args.kind c.args.records.now c.args.count c.args.from c.width.result _ _ c.width.ensures c.behind_first.ensures (ap (λ (u : State g.row.P-Sample.Denot). u.codes) c.turn.ensures.after ∙ turned_codes k c.args.count s t c.requires.0 c.in_ok-feed.ensures.taken) in
+    let one = first_tests g s.codes c.args.first.kind c.args.first.bytes.now c.args.first.count c.args.first.from in
+    let two = second_tests g s.codes c.args.first.kind c.args.first.bytes.now c.args.first.count c.args.first.from in
+    let same = second_same g s.codes c.args.first.kind c.args.first.bytes.now c.args.first.count c.args.first.from c.width.result _ _ c.width.ensures c.behind_first.ensures (ap (λ (u : State g.row.P-Sample.Denot). u.codes) c.turn.ensures.after ∙ turned_codes k c.args.first.count s t c.requires.0 c.in_ok-feed.ensures.taken) in
     let a = answers_none (first_refusal one) tt tt c.in_ok-feed.ensures.value in
     let e = answers_some _ tt c.in_err-feed-2.field-0.0 c.in_err-feed-2.ensures.value in
     rw (p.1, p.2) (record { value = sym (ap (λ o. unless o tt) (passed one two a ∙ sym same ∙ e)); state = tt; ended = tt })
@@ -83,20 +79,20 @@ returns g c =
     let u = state_of k g.P.Pair c.feed-2.new.sounder in
     let B = c.requires.0 in
     let T = c.in_ok-feed.ensures.taken in
-    let one = first_tests g s.codes c.args.kind c.args.records.now c.args.count c.args.from in
-    let two = second_tests g s.codes c.args.kind c.args.records.now c.args.count c.args.from in
-    let same = second_same g s.codes c.args.kind c.args.records.now c.args.count c.args.from c.width.result _ _ c.width.ensures c.behind_first.ensures (ap (λ (u : State g.row.P-Sample.Denot). u.codes) c.turn.ensures.after ∙ turned_codes k c.args.count s t B T) in
+    let one = first_tests g s.codes c.args.first.kind c.args.first.bytes.now c.args.first.count c.args.first.from in
+    let two = second_tests g s.codes c.args.first.kind c.args.first.bytes.now c.args.first.count c.args.first.from in
+    let same = second_same g s.codes c.args.first.kind c.args.first.bytes.now c.args.first.count c.args.first.from c.width.result _ _ c.width.ensures c.behind_first.ensures (ap (λ (u : State g.row.P-Sample.Denot). u.codes) c.turn.ensures.after ∙ turned_codes k c.args.first.count s t B T) in
     let a = answers_none (first_refusal one) tt tt c.in_ok-feed.ensures.value in
     let b = answers_none _ tt tt c.in_ok-feed-2.ensures.value in
-    let U : Took c.args.count (next k Turn t) u = subst (λ (q : State g.row.P-Sample.Denot). Took c.args.count q u) c.turn.ensures.after c.in_ok-feed-2.ensures.taken in
-    let d : done c.close.result ≡ Done = c.close.ensures.value ∙ closes k c.args.count s t B T u U in
-    let ys = samples_in c.args.kind (drop (width c.args.kind * c.args.count) c.args.records.now) c.args.count in
-    let xs = samples_in c.args.kind c.args.records.now c.args.count in
+    let U : Took c.args.first.count (next k Turn t) u = subst (λ (q : State g.row.P-Sample.Denot). Took c.args.first.count q u) c.turn.ensures.after c.in_ok-feed-2.ensures.taken in
+    let d : done c.close.result ≡ Done = c.close.ensures.value ∙ closes k c.args.first.count s t B T u U in
+    let ys = samples_in c.args.first.kind (drop (width c.args.first.kind * c.args.first.count) c.args.first.bytes.now) c.args.first.count in
+    let xs = samples_in c.args.first.kind c.args.first.bytes.now c.args.first.count in
     let u-is : u ≡ led k (sample_calls ys) (next k Turn t) =
-    c.in_ok-feed-2.ensures.state ∙ (λ j. led k (sample_calls (samples_in c.args.kind (rest_is g s.codes c.args.kind c.args.records.now c.args.count c.args.from c.width.result _ c.width.ensures c.behind_first.ensures j) c.args.count)) (c.turn.ensures.after j)) in
+    c.in_ok-feed-2.ensures.state ∙ (λ j. led k (sample_calls (samples_in c.args.first.kind (rest_is g s.codes c.args.first.kind c.args.first.bytes.now c.args.first.count c.args.first.from c.width.result _ c.width.ensures c.behind_first.ensures j) c.args.first.count)) (c.turn.ensures.after j)) in
     let all = c.close.ensures.after ∙ ap (next k Close) (u-is ∙ ap (λ (q : State g.row.P-Sample.Denot). led k (sample_calls ys) (next k Turn q)) c.in_ok-feed.ensures.state) ∙ sym (led_records k xs ys s) in
     record {
-      value = c.at_byte-2.ensures ∙ ap (λ r. unless (first_refusal (sounder_says (c.args.from + 2 * (c.width.result * c.args.count)) r)) tt) d ∙ sym (ap (λ o. unless o tt) (passed one two a ∙ sym same ∙ b));
+      value = c.at_byte-2.ensures ∙ ap (λ r. unless (first_refusal (sounder_says (c.args.first.from + c.width.result * c.args.first.count + c.width.result * c.args.first.count) r)) tt) d ∙ sym (ap (λ o. unless o tt) (passed one two a ∙ sym same ∙ b));
       state = made_any c.at_byte-2.result all;
-      ended = made_any c.at_byte-2.result (closed_phase k c.args.count s t B T u U _ c.close.ensures.after, closed_room k c.args.count s t B T u U _ c.close.ensures.after);
+      ended = made_any c.at_byte-2.result (closed_phase k c.args.first.count s t B T u U _ c.close.ensures.after, closed_room k c.args.first.count s t B T u U _ c.close.ensures.after);
     }
