@@ -2,4 +2,4 @@ pub mod Loops
 pub mod Accepted
 pub mod Built
 pub mod Cascades
-pub mod Fields
+pub mod Padding

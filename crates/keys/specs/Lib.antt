@@ -1,5 +1,6 @@
 pub mod Refusals
 pub mod Judged
 pub mod KernelNames
+pub mod StageLists
 pub mod Plans
 pub mod Recursion

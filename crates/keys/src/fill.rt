@@ -8,6 +8,7 @@ use crate::kernel::KernelName;
 use crate::key::Key;
 use crate::refusal::KeyRefusal;
 use crate::stage::KeyStage;
+use crate::stages::Stages;
 use kinds::Kind;
 
 impl Key {
@@ -18,8 +19,7 @@ impl Key {
         Key {
             kernel: KernelName::Unit,
             roots: 2,
-            count: 0,
-            stages: [KeyStage { delay: 0, code: 0 }; 7],
+            stages: Stages::new(),
         }
     }
 
@@ -28,15 +28,10 @@ impl Key {
         requires { judged roots (number_of kernel) stages.now ≡ Ok tt }
         ensures { plan_of result ≡ plan (number_of kernel) roots stages.now }
     {
-        let mut held = [KeyStage { delay: 0, code: 0 }; 7];
-        for i in 0..stages.len() {
-            held[i] = stages[i];
-        }
         Key {
             kernel,
             roots,
-            count: stages.len() as u8,
-            stages: held,
+            stages: Stages::from_slice(stages),
         }
     }
 

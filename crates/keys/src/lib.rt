@@ -9,8 +9,10 @@ mod key;
 mod reading;
 mod refusal;
 mod stage;
+mod stages;
 
 pub use check::{check_kernel, check_stage_count, delays_fit};
 pub use key::Key;
 pub use refusal::KeyRefusal;
 pub use stage::KeyStage;
+pub use stages::Stages;

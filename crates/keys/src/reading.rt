@@ -22,17 +22,13 @@ impl Key {
     pub fn stage_count(&self) -> usize
         ensures { result ≡ length (plan_of self.now).stages }
     {
-        self.count as usize
+        self.stages.as_slice().len()
     }
 
     // Stage i, of which the first is the lowest; absent past the last.
     pub fn stage(&self, i: usize) -> Option<KeyStage>
         ensures { result ≡ stage_at (plan_of self.now).stages i }
     {
-        if i < self.stage_count() {
-            Some(self.stages[i])
-        } else {
-            None
-        }
+        self.stages.as_slice().get(i).copied()
     }
 }

@@ -4,3 +4,8 @@ pub struct KeyStage {
     pub delay: u8,
     pub code: u8,
 }
+
+impl KeyStage {
+    // A stage that rests.
+    pub(crate) const AT_REST: KeyStage = KeyStage { delay: 0, code: 0 };
+}

@@ -3,10 +3,11 @@ use Rattle.sums.specs.declared.Side.{Side}
 use Rattle.sums.specs.Codes.{Codes}
 use Rattle.pairs.specs.Cascades.{cascade_codes}
 use Rattle.keys.specs.KernelNames.{number_of}
+use Rattle.keys.specs.StageLists.{padded}
 use Rattle.keys.specs.Plans.{plan_of, stages_for}
 use Rattle.keys.specs.Recursion.{kernel_of, IsRoot}
-use Rattle.keys.proofs.Built.{Built, over, built, built_roots}
-use Rattle.keys.proofs.Cascades.{few_for, cascade_built, key_built, new_silent}
+use Rattle.keys.proofs.Built.{Built, built, built_roots}
+use Rattle.keys.proofs.Cascades.{at, cascade_built, key_built, new_silent}
 use Rattle.keys.proofs.key.Key.stages_over.Given as given
 use Rattle.keys.proofs.key.Key.stages_over.Goals as goal
 
@@ -14,15 +15,16 @@ meaning : (g : given.Over) (c : goal.After-new g) → cascade_codes g.K.Kind c.n
 meaning g c =
     let k = g.K.Kind in
     let key = c.args.self.now in
+    let places = c.places.result in
     c.new.ensures.codes
-    ∙ ap (over k c.stage_for-s6.result) (c.new-six.ensures.codes
-    ∙ ap (over k c.stage_for-s5.result) (c.new-five.ensures.codes
-    ∙ ap (over k c.stage_for-s4.result) (c.new-four.ensures.codes
-    ∙ ap (over k c.stage_for-s3.result) (c.new-three.ensures.codes
-    ∙ ap (over k c.stage_for-s2.result) (c.new-two.ensures.codes
-    ∙ ap (over k c.stage_for-s1.result) (c.new-one.ensures.codes
-    ∙ ap (over k c.stage_for-s0.result) c.requires.0))))))
-    ∙ cascade_built k (stages_for k.polar.count (plan_of key)) _ (few_for k.polar.count key) _ _ _ _ _ _ _ c.stage_for-s0.ensures c.stage_for-s1.ensures c.stage_for-s2.ensures c.stage_for-s3.ensures c.stage_for-s4.ensures c.stage_for-s5.ensures c.stage_for-s6.ensures
+    ∙ ap (at k places 6) (c.new-six.ensures.codes
+    ∙ ap (at k places 5) (c.new-five.ensures.codes
+    ∙ ap (at k places 4) (c.new-four.ensures.codes
+    ∙ ap (at k places 3) (c.new-three.ensures.codes
+    ∙ ap (at k places 2) (c.new-two.ensures.codes
+    ∙ ap (at k places 1) (c.new-one.ensures.codes
+    ∙ ap (at k places 0) c.requires.0))))))
+    ∙ cascade_built k k.polar.count key places _ (c.places.ensures ∙ ap padded c.stages_for.ensures)
 
 pub returns : goal.returns
 returns g c =
