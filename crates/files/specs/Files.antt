@@ -21,10 +21,10 @@ use Rattle.files.specs.Soundings.{taps, TapsLaws}
 use Rattle.files.specs.Order.{sounding_tests}
 
 abbrev pub hall_kind : KindModel of-hall.Hall
-hall_kind = record { ring = hall_ring; encoding = hall_words; polar = hall_polar }
+hall_kind = record { ROOTS = 2; ring = hall_ring; encoding = hall_words; polar = hall_polar }
 
 abbrev pub radio_kind : KindModel of-radio.Radio
-radio_kind = record { ring = radio_ring; encoding = radio_words; polar = radio_polar }
+radio_kind = record { ROOTS = 4; ring = radio_ring; encoding = radio_words; polar = radio_polar }
 
 -- the fields of a file, sounded over a pair with the codes c
 module _ {S : Type 0} (k : KindModel S) (c : Codes S) (s : Sounding) where

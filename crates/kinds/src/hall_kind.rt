@@ -1,5 +1,5 @@
 // The hall kind: whole numbers modulo 2^64.
-ghost use Rattle.std.specs.Prelude.{◌≡◌, ℤ};
+ghost use Rattle.std.specs.Prelude.{◌≡◌, ℤ, refl};
 ghost use Rattle.kinds.specs.Exact.{Alike};
 ghost use Rattle.kinds.specs.Halls.{hall, hall_ring, hall_words, hall_polar};
 ghost use Rattle.kinds.specs.HallsLemmas.{hall_ring_laws, hall_conjugation_laws, hall_word_laws, hall_sample_laws, hall_root_laws, hall_magnitude_laws};
@@ -19,6 +19,10 @@ impl Hall {
 
 impl Kind for Hall {
     const ROOTS: u8 = 2;
+
+    ghost ROOTS = { 2 };
+
+    ghost counted = { refl };
 
     ghost ring = { hall_ring };
 
@@ -72,10 +76,6 @@ impl Kind for Hall {
         } else {
             None
         }
-    }
-
-    fn root_count() -> u8 {
-        Self::ROOTS
     }
 
     fn root(code: u8) -> Option<Hall> {

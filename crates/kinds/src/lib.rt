@@ -1,7 +1,7 @@
 // Sample kinds: what a sample is, what can be done with it, and the laws that hold of every kind.
 #![tactic(auto)]
 
-ghost use Rattle.std.specs.Prelude.{◌≡◌, if◌then◌else◌, Some, None, nat_lt};
+ghost use Rattle.std.specs.Prelude.{◌≡◌, ℕ, if◌then◌else◌, Some, None, nat_lt};
 ghost use Rattle.kinds.specs.Samples.{RingOps, WordOps, PolarOps, RingLaws, ConjugationLaws, WordLaws, SampleLaws, RootLaws, MagnitudeLaws};
 
 pub mod hall;
@@ -17,6 +17,9 @@ pub use kind_name::{KindName, UnknownKind};
 pub trait Kind: Copy {
     // The number of roots of one: even, from 2 to 64.
     const ROOTS: u8;
+
+    // The same number in clauses.
+    ghost ROOTS: { ℕ };
 
     // Zero, one, sum, difference, product and conjugate.
     ghost ring: { RingOps Self };
@@ -54,7 +57,10 @@ pub trait Kind: Copy {
 
     // `ROOTS`, as a call that promises what it means.
     fn root_count() -> u8
-        ensures { result ≡ polar.count };
+        ensures { result ≡ polar.count }
+    {
+        Self::ROOTS
+    }
 
     // The root of a code; `None` exactly if the code is not below the number of roots.
     fn root(code: u8) -> Option<Self>
@@ -62,6 +68,9 @@ pub trait Kind: Copy {
 
     fn magnitude(self) -> u64
         ensures { result ≡ polar.magnitude self };
+
+    // `ROOTS` is the number of roots.
+    ghost counted: { ROOTS ≡ polar.count };
 
     // The samples are a commutative ring.
     ghost algebra: { RingLaws ring };

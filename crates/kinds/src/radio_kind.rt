@@ -1,5 +1,5 @@
 // The radio kind: Gaussian integers x + iy, both words modulo 2^64.
-ghost use Rattle.std.specs.Prelude.{◌≡◌, ℤ, ◌+ℤ◌, ◌-ℤ◌, ◌*ℤ◌};
+ghost use Rattle.std.specs.Prelude.{◌≡◌, ℤ, refl, ◌+ℤ◌, ◌-ℤ◌, ◌*ℤ◌};
 ghost use Rattle.kinds.specs.Exact.{Alike};
 ghost use Rattle.kinds.specs.Radios.{radio, radio_ring, radio_words, radio_polar};
 ghost use Rattle.kinds.specs.RadiosLemmas.{radio_ring_laws, radio_conjugation_laws, radio_word_laws, radio_sample_laws, radio_root_laws, radio_magnitude_laws};
@@ -37,6 +37,10 @@ impl Radio {
 
 impl Kind for Radio {
     const ROOTS: u8 = 4;
+
+    ghost ROOTS = { 4 };
+
+    ghost counted = { refl };
 
     ghost ring = { radio_ring };
 
@@ -87,10 +91,6 @@ impl Kind for Radio {
 
     fn from_words(first: i64, second: i64) -> Option<Radio> {
         Some(Radio::new(first, second))
-    }
-
-    fn root_count() -> u8 {
-        Self::ROOTS
     }
 
     fn root(code: u8) -> Option<Radio> {
