@@ -68,6 +68,7 @@ pub(crate) fn sound<P: Pair + Drop>(
         room,
         room_byte: at,
         records: bytes,
+        ..
     } = file.fields;
     let span = pair.span();
     let mut sounder = Sounder::new(pair);

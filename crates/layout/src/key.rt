@@ -3,7 +3,7 @@ ghost use Rattle.std.specs.Prelude.{◌≡◌, ◌^◌, ◌<◌, ◌≤◌, leng
 ghost use Rattle.keys.specs.Judged.{count_judged, judged};
 ghost use Rattle.keys.specs.Plans.{plan, plan_of};
 ghost use Rattle.kinds.specs.KindNames.{roots};
-ghost use Rattle.layout.specs.Tests.{first_refusal, unless};
+ghost use Rattle.layout.specs.Tests.{first_refusal, unless, Decided};
 ghost use Rattle.layout.specs.Order.{key_byte, key_says};
 
 use crate::refusal::FileRefusal;
@@ -59,16 +59,12 @@ fn fill_for(
     }
 }
 
-// Fills the key of a file, or refuses and leaves it as it is.
-pub(crate) fn fill_in(
-    key: &mut Key,
-    kind: KindName,
-    kernel: u8,
-    stages: &[KeyStage],
-) -> Result<(), FileRefusal>
+// The key of a file.
+pub(crate) fn key_for(kind: KindName, kernel: u8, stages: &[KeyStage]) -> Result<Key, FileRefusal>
     requires { length stages.now ≤ 7 }
-    ensures answer { result ≡ unless (first_refusal (key_says (judged (roots kind) kernel stages.now))) tt }
-    ensures key { MatchResult result (λ _. plan_of key.new ≡ plan kernel (roots kind) stages.now) (λ _. key.new ≡ key.old) }
+    ensures { Decided (key_says (judged (roots kind) kernel stages.now)) result (λ key. plan_of key ≡ plan kernel (roots kind) stages.now) }
 {
-    in_file(fill_for(key, kind, kernel, stages))
+    let mut key = Key::built_in();
+    in_file(fill_for(&mut key, kind, kernel, stages))?;
+    Ok(key)
 }

@@ -1,8 +1,11 @@
+use keys::Key;
 use kinds::KindName;
 
-// The fields of a sounding file beside its key.
+// What a sounding file says.
 #[derive(Clone, Copy)]
 pub struct Sounding<'a> {
+    // the key, for the kind that the file names
+    pub key: Key,
     pub kind: KindName,
     // the room length, and the byte of the file where it begins
     pub room: usize,

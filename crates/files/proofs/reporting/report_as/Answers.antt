@@ -10,5 +10,5 @@ returns g c =
     let k = g.K.Kind in
     let s = c.args.file.fields in
     let out = c.args.out.now in
-    let same = codes_of_key k (plan_of c.args.key.now) _ _ c.cascade.ensures in
+    let same = codes_of_key k (plan_of s.key) _ _ c.cascade.ensures in
     subst (λ (d : Codes g.row.K.Denot). Reports (tests_over k d s c.args.file.size (length out)) (report_over k d s) (LawsOver k d s) c.report_over.result out c.report_over.new.out) same c.report_over.ensures

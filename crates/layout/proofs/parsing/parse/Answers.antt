@@ -1,4 +1,4 @@
-use Rattle.std.proofs.Common.{refl, ◌∙◌, arith, rules}
+use Rattle.std.proofs.Common.{◌∙◌, arith, rules}
 use Rattle.std.proofs.lemmas.List.{length-take}
 use Rattle.std.proofs.lemmas.Result.{err_from_is_err_and}
 use Rattle.layout.proofs.Orders.{answers_some, answers_none}
@@ -10,26 +10,25 @@ returns-in_err-check_count c =
     let h = c.in_ok-head.ensures in
     let p = err_from_is_err_and c.from_residual-in_err-check_count.result c.from_residual-in_err-check_count.ensures.1 in
     let b = answers_some _ tt _ c.in_err-check_count.ensures in
-    rw (p.1, p.2) (record { answer = stops_at_count c.args.file.now h.0 c.in_ok-head.head h.1 _ b; key = refl })
+    rw (p.1, p.2) (stops_at_count c.args.file.now h.0 c.in_ok-head.head h.1 _ b)
 
 pub returns-in_err-fields : goal.returns-in_err-fields
 returns-in_err-fields c =
     let h = c.in_ok-head.ensures in
     let p = err_from_is_err_and c.from_residual-in_err-fields.result c.from_residual-in_err-fields.ensures.1 in
     let b = answers_none _ tt tt c.in_ok-check_count.ensures in
-    rw (p.1, p.2) (record { answer = stops_at_fields c.args.file.now h.0 c.in_ok-head.head h.1 b _ c.in_err-fields.ensures; key = refl })
+    rw (p.1, p.2) (stops_at_fields c.args.file.now h.0 c.in_ok-head.head h.1 b _ c.in_err-fields.ensures)
 
-pub fill_in-requires : goal.fill_in-requires
-fill_in-requires c = search (rules, length-take)
+pub key_for-requires : goal.key_for-requires
+key_for-requires c = search (rules, length-take)
 
-pub returns-in_err-fill_in : goal.returns-in_err-fill_in
-returns-in_err-fill_in c =
+pub returns-in_err-key : goal.returns-in_err-key
+returns-in_err-key c =
     let h = c.in_ok-head.ensures in
-    let p = err_from_is_err_and c.from_residual-in_err-fill_in.result c.from_residual-in_err-fill_in.ensures.1 in
+    let p = err_from_is_err_and c.from_residual-in_err-key.result c.from_residual-in_err-key.ensures.1 in
     let b = answers_none _ tt tt c.in_ok-check_count.ensures in
     let f = c.in_ok-fields.ensures in
-    let k = answers_some _ tt _ c.in_err-fill_in.ensures.answer in
-    rw (p.1, p.2) (record { answer = key_decides c.args.file.now h.0 c.in_ok-head.head h.1 b f.0 _ f.1.stages_are ∙ k; key = c.in_err-fill_in.ensures.key })
+    rw (p.1, p.2) (key_decides c.args.file.now h.0 c.in_ok-head.head h.1 b f.0 _ f.1.stages_are ∙ c.in_err-key.ensures)
 
 pub returns : goal.returns
 returns c =
@@ -38,18 +37,15 @@ returns c =
     let h = c.in_ok-head.ensures in
     let b = answers_none _ tt tt c.in_ok-check_count.ensures in
     let f = c.in_ok-fields.ensures in
-    let k = answers_none _ tt tt c.in_ok-fill_in.ensures.answer in
-    let n = h.1.count_is in
-    record {
-      answer = (
-        key_decides file h.0 head h.1 b f.0 _ f.1.stages_are ∙ k,
-        record {
-          kind_is = h.1.kind_is;
-          room_is = room_same file h.0 head h.1 _ f.1.room_is;
-          byte_is = omega arith;
-          records_are = records_same file h.0 head h.1 _ f.1.rest_is;
-          size_is = size_same file h.0 head h.1 _ f.1.rest_is f.1.enough;
-        },
-      );
-      key = c.in_ok-fill_in.ensures.key ∙ plan_same file h.0 head h.1 b f.0 _ f.1.stages_are;
-    }
+    let k = c.in_ok-key.ensures in
+    let n = h.1.count_is in (
+      key_decides file h.0 head h.1 b f.0 _ f.1.stages_are ∙ k.0,
+      record {
+        key_is = k.1 ∙ plan_same file h.0 head h.1 b f.0 _ f.1.stages_are;
+        kind_is = h.1.kind_is;
+        room_is = room_same file h.0 head h.1 _ f.1.room_is;
+        byte_is = omega arith;
+        records_are = records_same file h.0 head h.1 _ f.1.rest_is;
+        size_is = size_same file h.0 head h.1 _ f.1.rest_is f.1.enough;
+      },
+    )
