@@ -1,5 +1,5 @@
 // One stage of a key.
-#[derive(Clone, Copy, PartialEq, Eq, Debug)]
+#[derive(Clone, Copy, PartialEq, Eq, Debug, Default)]
 pub struct KeyStage {
     pub delay: u8,
     pub code: u8,

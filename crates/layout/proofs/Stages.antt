@@ -1,9 +1,7 @@
 -- The loop that takes the stages.
-use Rattle.std.proofs.Common.{◌≡◌, ℕ, ◌+◌, ◌-◌, ◌*◌, ◌<◌, ◌≤◌, List, [], ◌∷◌, map, length, get_or, take, drop, set, ap, ◌∙◌, ap₂, add-zero, arith}
-use Rattle.std.proofs.lemmas.List.{take_rest, length-drop, get_or-drop, get_or-take, length-take-le}
-use Rattle.std.proofs.lemmas.List.FromFn.{fill_by_all}
-use Rattle.std.proofs.lemmas.List.Edits.{fill_by_more}
-use Rattle.std.specs.List.{range_with_len}
+use Rattle.std.proofs.Common.{◌≡◌, ℕ, ◌+◌, ◌-◌, ◌*◌, List, [], ◌∷◌, ◌++◌, length, get_or, take, drop, sym, ap, ◌∙◌, ap₂, add-zero, arith}
+use Rattle.std.proofs.lemmas.List.{take_rest, length-drop, get_or-drop}
+use Rattle.std.proofs.lemmas.List.FromFn.{map-range_with_len_more}
 use Rattle.keys.specs.declared.stage.KeyStage.{KeyStage}
 use Rattle.layout.specs.Fields.{byte_at, two_bytes, stage_in, stages_in}
 use Rattle.layout.proofs.Rests.{rests, rests_are}
@@ -35,12 +33,5 @@ module _ (bytes rest : List ℕ) (i : ℕ) (is : rest ≡ drop (2 * i) bytes) wh
   pub stage_is : stage (get_or rest 0 0) (get_or (take (length rest - 1) (drop 1 rest)) 0 0) ≡ stage_in bytes i
   stage_is = ap₂ stage (byte_in bytes rest (2 * i) is 0 ∙ ap (byte_at bytes) (add-zero (2 * i))) (byte_past bytes rest (2 * i) is 1 0)
 
-  pub stages_more : (stages : List KeyStage) (d : KeyStage) → i < length stages → ((k : ℕ) → k < i → get_or stages k d ≡ stage_in bytes k) → (k : ℕ) → k < i + 1 → get_or (set stages i (stage (get_or rest 0 0) (get_or (take (length rest - 1) (drop 1 rest)) 0 0))) k d ≡ stage_in bytes k
-  stages_more stages d h all k g = ap (λ (s : KeyStage). get_or (set stages i s) k d) stage_is ∙ fill_by_more (stage_in bytes) stages i d h all k g
-
--- the front of an array that a loop has filled
-pub filled : {X : Type 0} (f : ℕ → X) (n : ℕ) (xs : List X) (d : X) → n ≤ length xs → ((k : ℕ) → k < n → get_or xs k d ≡ f k) → take n xs ≡ map f (range_with_len 0 n)
-filled f n xs d h all = fill_by_all f (take n xs) n d (length-take-le n xs h) (λ k g. get_or-take n xs k d g ∙ all k g)
-
-pub stages_all : (bytes : List ℕ) (n : ℕ) (stages : List KeyStage) (d : KeyStage) → n ≤ length stages → ((k : ℕ) → k < n → get_or stages k d ≡ stage_in bytes k) → take n stages ≡ stages_in bytes n
-stages_all bytes = filled (stage_in bytes)
+  pub stages_more : (stages : List KeyStage) → stages ≡ stages_in bytes i → stages ++ stage (get_or rest 0 0) (get_or (take (length rest - 1) (drop 1 rest)) 0 0) ∷ [] ≡ stages_in bytes (i + 1)
+  stages_more stages e = ap₂ (λ (ss : List KeyStage) (s : KeyStage). ss ++ s ∷ []) e stage_is ∙ sym (map-range_with_len_more (stage_in bytes) 0 i i (omega arith))

@@ -1,5 +1,5 @@
 -- What is read from a file that passes the tests.
-use Rattle.std.specs.Prelude.{◌≡◌, ℕ, ◌+◌, ◌*◌, ◌≤◌, List, length, take, drop}
+use Rattle.std.specs.Prelude.{◌≡◌, ℕ, ◌+◌, ◌*◌, ◌≤◌, List, length, drop}
 use Rattle.keys.specs.Plans.{plan_of}
 use Rattle.layout.specs.declared.head.Head.{Head}
 use Rattle.layout.specs.declared.fields.Fields.{Fields}
@@ -15,7 +15,7 @@ pub record HeadRead (file : List ℕ) (h : Head) : Type 0 where
 
 -- `bytes` begins at byte 6 of the file
 pub record FieldsRead (bytes : List ℕ) (count : ℕ) (f : Fields) : Type 0 where
-  pub stages_are : take count f.stages ≡ stages_in bytes count
+  pub stages_are : f.stages.items ≡ stages_in bytes count
   pub room_is : f.room ≡ two_bytes bytes (2 * count)
   pub rest_is : f.rest.now ≡ drop (2 * count + 2) bytes
   pub enough : 2 * count + 2 ≤ length bytes

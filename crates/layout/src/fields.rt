@@ -6,11 +6,12 @@ ghost use Rattle.layout.specs.Read.{FieldsRead};
 
 use crate::head::two_bytes;
 use crate::refusal::FileRefusal;
+use arrayvec::ArrayVec;
 use keys::KeyStage;
 
-#[derive(Clone, Copy)]
+#[derive(Drop)]
 pub(crate) struct Fields<'a> {
-    pub stages: [KeyStage; 7],
+    pub stages: ArrayVec<KeyStage, 7>,
     pub room: usize,
     // what follows the room length
     pub rest: &'a [u8],
@@ -29,7 +30,7 @@ pub(crate) fn take_fields(bytes: &[u8], count: usize) -> Result<Fields<'_>, File
     requires { count ≤ 7 }
     ensures { Decided (field_tests (6 + length bytes.now) count) result (λ f. FieldsRead bytes.now count f) }
 {
-    let mut stages = [KeyStage { delay: 0, code: 0 }; 7];
+    let mut stages = ArrayVec::new();
     let mut rest = bytes;
     for i in 0..count {
         let [delay, more @ ..] = rest else {
@@ -38,10 +39,8 @@ pub(crate) fn take_fields(bytes: &[u8], count: usize) -> Result<Fields<'_>, File
         let [code, more @ ..] = more else {
             return Err(FileRefusal::Length { byte: 7 + 2 * i });
         };
-        stages[i] = KeyStage {
-            delay: *delay,
-            code: *code,
-        };
+        let (delay, code) = (*delay, *code);
+        stages.push(KeyStage { delay, code });
         rest = more;
     }
     let [high, low, rest @ ..] = rest else {

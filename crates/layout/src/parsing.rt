@@ -15,7 +15,7 @@ pub fn parse(file: &[u8]) -> Result<Sounding<'_>, FileRefusal>
     let head = take_head(file)?;
     check_count(head.kernel, head.count)?;
     let fields = take_fields(head.rest, head.count)?;
-    let key = key_for(head.kind, head.kernel, &fields.stages[..head.count])?;
+    let key = key_for(head.kind, head.kernel, fields.stages.as_slice())?;
     Ok(Sounding {
         key,
         kind: head.kind,

@@ -4,8 +4,8 @@ use kinds::Kind;
 use kinds::hall::Hall;
 use kinds::radio::Radio;
 use pairs::{Kernel, Pair, Stage};
-use sounder::{Sounder, replay};
 use refusals::Refused;
+use sounder::{Sounder, replay};
 use std::process::Abort;
 
 // Delay 1, code 0 over the unit kernel: span 2, energy 4, A = 1 1, B = 1 -1.

@@ -28,7 +28,7 @@ returns-in_err-key c =
     let p = err_from_is_err_and c.from_residual-in_err-key.result c.from_residual-in_err-key.ensures.1 in
     let b = answers_none _ tt tt c.in_ok-check_count.ensures in
     let f = c.in_ok-fields.ensures in
-    rw (p.1, p.2) (key_decides c.args.file.now h.0 c.in_ok-head.head h.1 b f.0 _ f.1.stages_are ∙ c.in_err-key.ensures)
+    rw (p.1, p.2) (key_decides c.args.file.now h.0 c.in_ok-head.head h.1 b f.0 c.as_slice.result.now (c.as_slice.ensures.value ∙ f.1.stages_are) ∙ c.in_err-key.ensures)
 
 pub returns : goal.returns
 returns c =
@@ -39,9 +39,9 @@ returns c =
     let f = c.in_ok-fields.ensures in
     let k = c.in_ok-key.ensures in
     let n = h.1.count_is in (
-      key_decides file h.0 head h.1 b f.0 _ f.1.stages_are ∙ k.0,
+      key_decides file h.0 head h.1 b f.0 c.as_slice.result.now (c.as_slice.ensures.value ∙ f.1.stages_are) ∙ k.0,
       record {
-        key_is = k.1 ∙ plan_same file h.0 head h.1 b f.0 _ f.1.stages_are;
+        key_is = k.1 ∙ plan_same file h.0 head h.1 b f.0 c.as_slice.result.now (c.as_slice.ensures.value ∙ f.1.stages_are);
         kind_is = h.1.kind_is;
         room_is = room_same file h.0 head h.1 _ f.1.room_is;
         byte_is = omega arith;
