@@ -1,13 +1,20 @@
-ghost use Rattle.std.specs.Prelude.{◌≡◌, ◌<◌};
+ghost use Rattle.std.specs.Prelude.{◌≡◌, ℤ, List};
 ghost use Rattle.tables.specs.Tables.{words, zeros, written, sample_of};
 
 use kinds::Kind;
+use std::marker::Model;
 
 // N places for the two words of a sample. Past the last place there are zeros, and nothing is written there.
 #[derive(Drop)]
 pub struct WordTable<const N: usize> {
-    first: [i64; N],
-    second: [i64; N],
+    places: [(i64, i64); N],
+}
+
+// Clauses see the list of the two words at each place.
+impl<const N: usize> Model for WordTable<N> {
+    ghost Value = { List (ℤ × ℤ) };
+
+    ghost view = { λ t. t.places };
 }
 
 impl<const N: usize> WordTable<N> {
@@ -15,35 +22,22 @@ impl<const N: usize> WordTable<N> {
         ensures { words result ≡ zeros N }
     {
         WordTable {
-            first: [0; N],
-            second: [0; N],
+            places: [(0, 0); N],
         }
     }
 
     pub fn get(&self, place: usize) -> (i64, i64)
         ensures { result ≡ words self.now place }
     {
-        if place < N {
-            (self.first[place], self.second[place])
-        } else {
-            (0, 0)
-        }
+        self.places.get(place).copied().unwrap_or((0, 0))
     }
 
     pub fn put(&mut self, place: usize, value: (i64, i64))
         ensures { words self.new ≡ written N (words self.old) place value }
     {
         if place < N {
-            self.write(place, value);
+            self.places[place] = value;
         }
-    }
-
-    fn write(&mut self, place: usize, value: (i64, i64))
-        requires { place < N }
-        ensures { words self.new ≡ written N (words self.old) place value }
-    {
-        self.first[place] = value.0;
-        self.second[place] = value.1;
     }
 
     pub fn clear(&mut self)
@@ -57,9 +51,6 @@ impl<const N: usize> WordTable<N> {
         ensures { result ≡ sample_of K.Kind.ring K.Kind.encoding (words self.now place) }
     {
         let (first, second) = self.get(place);
-        match K::from_words(first, second) {
-            Some(x) => x,
-            None => K::zero(),
-        }
+        K::from_words(first, second).unwrap_or(K::zero())
     }
 }
