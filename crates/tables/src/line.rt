@@ -1,18 +1,21 @@
-ghost use Rattle.std.specs.Prelude.{◌≡◌, ◌+◌, ◌%◌};
-ghost use Rattle.tables.specs.Lines.{delayed};
+ghost use Rattle.std.specs.Prelude.{◌≡◌, ◌+◌, ◌%◌, ◌<◌};
 ghost use Rattle.tables.specs.Tables.{words, zeros, written};
 
 use crate::table::WordTable;
 use kinds::Kind;
 
 // The 128 latest values of a row of samples: each goes to the place after the last one's.
+// Clauses name both fields, since they say too at which place the next value goes.
 #[derive(Drop)]
 pub struct DelayLine {
     table: WordTable<128>,
     next: u8,
+    ghost inside: { next < 128 },
 }
 
 impl DelayLine {
+    ghost use Rattle.tables.specs.Lines.{delayed};
+
     pub fn new() -> Self
         ensures table { words result.table ≡ zeros 128 }
         ensures next { result.next ≡ 0 }
@@ -30,10 +33,10 @@ impl DelayLine {
         ensures table { words self.new.table ≡ written 128 (words self.old.table) (self.old.next % 128) (K.Kind.encoding.first latest, K.Kind.encoding.second latest) }
         ensures next { self.new.next ≡ (self.old.next + 1) % 128 }
     {
-        let place = self.next as usize % 128;
-        let oldest = self.table.sample((place + 256 - delay as usize) % 128);
+        let place = usize::from(self.next);
+        let oldest = self.table.sample((place + 256 - usize::from(delay)) % 128);
         self.table.put(place, latest.words());
-        self.next = ((place + 1) % 128) as u8;
+        self.next = (self.next + 1) % 128;
         oldest
     }
 

@@ -1,20 +1,12 @@
-ghost use Rattle.std.specs.Prelude.{◌≡◌, ℤ, List};
+ghost use Rattle.std.specs.Prelude.{◌≡◌};
 ghost use Rattle.tables.specs.Tables.{words, zeros, written, sample_of};
 
 use kinds::Kind;
-use std::marker::Model;
 
 // N places for the two words of a sample. Past the last place there are zeros, and nothing is written there.
 #[derive(Drop)]
 pub struct WordTable<const N: usize> {
     places: [(i64, i64); N],
-}
-
-// Clauses see the list of the two words at each place.
-impl<const N: usize> Model for WordTable<N> {
-    ghost Value = { List (ℤ × ℤ) };
-
-    ghost view = { λ t. t.places };
 }
 
 impl<const N: usize> WordTable<N> {
