@@ -1,5 +1,5 @@
 -- The tables of the ten-entry kernel, as a sample comes in.
-use Rattle.std.proofs.Common.{◌≡◌, ℕ, ◌+◌, ◌<◌, ◌≤◌, cond, ltb, ◌≢◌, ℤ, sym, refl, ap, ◌∙◌, ⊎_elim, arith}
+use Rattle.std.proofs.Common.{◌≡◌, ℕ, ◌+◌, ◌<◌, ◌≤◌, true, false, cond, ltb, ◌≢◌, get_or, ℤ, pos, sym, refl, ap, ◌∙◌, ⊎_elim, arith}
 use mathlib.Core.Path.{fun_ext}
 use Rattle.std.proofs.lemmas.Bool.{cases_lt, cases_eq, lt-ltb, eq-eqb, ne_eqb, and_left, and_from, cond-true, cond-false, cond_both}
 use Rattle.kinds.specs.Samples.{RingLaws, ConjugationLaws, WordLaws, SampleLaws}
@@ -11,7 +11,8 @@ use Rattle.golay.specs.Kernels.{ten_entry}
 use Rattle.golay.proofs.Tens.{ten_past}
 use Rattle.pairs.specs.Kernels.{nine, nine_each}
 use Rattle.pairs.specs.KernelsLemmas.{nine_outside}
-use Rattle.tables.specs.Tables.{zeros, written, sample_of}
+use Rattle.tables.specs.Tables.{words, zeros, written, sample_of}
+use Rattle.tables.specs.declared.table.WordTable.{WordTable}
 use Rattle.tables.proofs.Tables.{zeros_at}
 use Rattle.tables.proofs.Lines.{sample_back, sample_zero}
 
@@ -23,6 +24,16 @@ pub record Shifted {S : Type 0} (k : KindModel S) (side : Side) (x : S) (start t
 module _ {S : Type 0} (k : KindModel S) where
   nine_same : (t u : ℕ → ℤ × ℤ) (i : ℕ) → t i ≡ u i → nine k t i ≡ nine k u i
   nine_same t u i e = ap (λ w. cond (ltb i 9) (sample_of k.ring k.encoding w) k.ring.zero) e
+
+  -- past the nine places a table has zeros too
+  pub nine_read : WordLaws k.ring k.encoding → SampleLaws k.encoding → (t : WordTable 9) (j : ℕ) → sample_of k.ring k.encoding (words t j) ≡ nine k (words t) j
+  nine_read word encodes t j =
+      let read = λ (w : ℤ × ℤ). sample_of k.ring k.encoding w in
+      let w = get_or t.places j (pos 0, pos 0) in
+      elim (ltb j 9) as (λ b. read (cond b w (pos 0, pos 0)) ≡ cond b (read (cond b w (pos 0, pos 0))) k.ring.zero) [
+        | true ↦ refl
+        | false ↦ sample_zero k.ring encodes word
+      ]
 
   module _ (side : Side) (x : S) (start : ℕ → ℤ × ℤ) where
     pub shifted_more : SampleLaws k.encoding → (table : ℕ → ℤ × ℤ) (j : ℕ) (next : S) (v : ℤ × ℤ) → j < 9 → Shifted k side x start table j → next ≡ matching k.ring 10 (ten_entry k.ring side) (nine k table) x (j + 1) → v ≡ (k.encoding.first next, k.encoding.second next) → Shifted k side x start (written 9 table j v) (j + 1)

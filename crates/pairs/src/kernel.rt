@@ -12,6 +12,7 @@ use std::marker::PhantomData;
 use sums::Side;
 
 // Either kernel, so that cascades over both are of one type.
+// Each method forwards by a match: a `Box<dyn Pair>` in its place would need the heap.
 #[derive(Drop)]
 pub enum Kernel<K> {
     Unit(UnitKernel<K>),

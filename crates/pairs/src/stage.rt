@@ -69,7 +69,7 @@ impl<P: Pair> Stage<P> {
         requires { (span ≡ P.Pair.span self.now.below) × (energy ≡ P.Pair.energy self.now.below) }
         ensures { result ≡ weight_in P.Sample.Kind (codes_of P.Pair) self.now }
     {
-        if 1 <= self.delay && self.delay <= 128 && energy <= 1 << 19 && span <= 3968 {
+        if (1..=128).contains(&self.delay) && energy <= 1 << 19 && span <= 3968 {
             P::Sample::root(self.code)
         } else {
             None
@@ -103,7 +103,7 @@ impl<P: Pair> Pair for Stage<P> {
         let (span, energy) = self.below.size();
         match self.weight_over(span, energy) {
             None => (span, energy),
-            Some(_) => (span + self.delay as usize, 2 * energy),
+            Some(_) => (span + usize::from(self.delay), 2 * energy),
         }
     }
 
@@ -111,7 +111,7 @@ impl<P: Pair> Pair for Stage<P> {
         let Some(w) = self.weight() else {
             return self.below.entry(side, k);
         };
-        let delay = self.delay as usize;
+        let delay = usize::from(self.delay);
         if k >= self.below.span() + delay {
             return None;
         }

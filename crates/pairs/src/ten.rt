@@ -25,8 +25,8 @@ fn is_minus(side: Side, k: usize) -> bool
     ensures { result ≡ is_minus side k }
 {
     match side {
-        Side::A => k == 2 || k == 4 || k == 6 || k == 7,
-        Side::B => k == 2 || k == 8 || k == 9,
+        Side::A => matches!(k, 2 | 4 | 6 | 7),
+        Side::B => matches!(k, 2 | 8 | 9),
     }
 }
 
@@ -36,19 +36,12 @@ fn with_sign<K: Kind>(minus: bool, x: K) -> K
     if minus { K::zero().difference(x) } else { x }
 }
 
-// The sum pending at place j, zero from place 9 on.
-fn pending_at<K: Kind>(table: &WordTable<9>, j: usize) -> K
-    ensures { result ≡ nine K.Kind (words table.now) j }
-{
-    if j < 9 { table.sample(j) } else { K::zero() }
-}
-
 // What stands at place j as x comes in.
 fn arriving<K: Kind>(table: &WordTable<9>, side: Side, j: usize, x: K) -> K
     requires { j < 10 }
     ensures { result ≡ matching K.Kind.ring 10 (ten_entry K.Kind.ring side) (nine K.Kind (words table.now)) x j }
 {
-    let waiting: K = pending_at(table, j);
+    let waiting: K = table.sample(j);
     waiting.sum(with_sign(is_minus(side, 9 - j), x))
 }
 
@@ -58,6 +51,7 @@ fn shift_in<K: Kind>(table: &mut WordTable<9>, side: Side, x: K) -> K
     ensures rest { nine K.Kind (words table.new) ≡ (λ j. matching K.Kind.ring 10 (ten_entry K.Kind.ring side) (nine K.Kind (words table.old)) x (j + 1)) }
 {
     let out = arriving(table, side, 0, x);
+    // By place: each one is written from the next, which no iterator lends along with it.
     for j in 0..9 {
         let next: K = arriving(table, side, j + 1, x);
         table.put(j, next.words());
@@ -97,11 +91,7 @@ impl<K: Kind> Pair for TenKernel<K> {
     }
 
     fn entry(&self, side: Side, k: usize) -> Option<K> {
-        if k < 10 {
-            Some(with_sign(is_minus(side, k), K::one()))
-        } else {
-            None
-        }
+        (k < 10).then_some(with_sign(is_minus(side, k), K::one()))
     }
 
     fn push(&mut self, x: K) -> (K, K) {

@@ -34,7 +34,7 @@ impl<K: Kind> Pair for UnitKernel<K> {
     }
 
     fn entry(&self, side: Side, k: usize) -> Option<K> {
-        if k < 1 { Some(K::one()) } else { None }
+        (k < 1).then_some(K::one())
     }
 
     fn push(&mut self, x: K) -> (K, K) {
