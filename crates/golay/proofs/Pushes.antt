@@ -1,16 +1,17 @@
 -- A push through a stage: what comes out, and what is pending then.
-use Rattle.std.proofs.Common.{◌≡◌, ℕ, ◌+◌, ◌-◌, ◌<◌, ◌≤◌, true, false, cond, ltb, Some, None, Option, sym, refl, ap, ◌∙◌, ap₂, ⊎_elim, arith}
+use Rattle.std.proofs.Common.{◌≡◌, ℕ, ◌+◌, ◌-◌, ◌<◌, ◌≤◌, true, false, cond, ltb, Some, None, Option, sym, refl, ap, ◌∙◌, subst, ap₂, ⊎_elim, arith}
 use mathlib.Core.Path.{fun_ext}
 use Rattle.std.proofs.lemmas.Bool.{cases_lt, cond_both}
-use Rattle.kinds.specs.Samples.{RingOps, RingLaws, ConjugationLaws}
+use Rattle.kinds.specs.Samples.{RingOps, PolarOps, RingLaws, ConjugationLaws}
 use Rattle.kinds.specs.Rings.{add_zero, mul_zero, zero_mul, conj_zero}
 use Rattle.sums.specs.declared.Side.{Side}
 use Rattle.sums.specs.declared.Side.TheVariants.{A, B}
 use Rattle.sums.specs.Sums.{joined, late}
 use Rattle.sums.specs.Codes.{Codes, Pending, silent, reversed, matching, arriving, answer, pushed}
 use Rattle.sums.proofs.Places.{joined_first, joined_second, reversed_inside, reversed_outside, late_before, late_after, late_outside}
-use Rattle.golay.specs.Stages.{blend, doubled, doubled_pending, stage_pending}
+use Rattle.golay.specs.Stages.{blend, doubled, doubled_pending, weight_of, stage_codes, stage_pending}
 use Rattle.golay.proofs.Blends.{blends}
+use Rattle.golay.proofs.Weights.{works_from_weight}
 
 module _ {S : Type 0} (k : RingOps S) (d n : ℕ) (f : ℕ → S) where
   -- a code that begins at once ends d places before the end
@@ -97,3 +98,15 @@ module _ {S : Type 0} {k : RingOps S} (ring : RingLaws k) (bar : ConjugationLaws
   stage_silent (Some w) d kept none =
       let flat : (j : ℕ) → joined d kept (λ i. k.zero) j ≡ k.zero = λ j. cond_both (ltb j d) (kept j) k.zero (λ t. t ≡ k.zero) (λ e. none j) (λ e. refl) in
       fun_ext (λ side. fun_ext (λ j. ap (λ t. blend k side (k.mul (k.conj w) t) k.zero) (flat j) ∙ ap (λ t. blend k side t k.zero) (mul_zero ring _) ∙ (blends ring bar side).of_zeros))
+
+  -- the same of a stage that works
+  module _ (r : PolarOps S) (d code : ℕ) (c : Codes S) {w : S} (is : Some w ≡ weight_of r d code c) (out : (j : ℕ) → c.span ≤ j → c.entry A j ≡ k.zero) (pending : Pending S) (x : S) where
+    pub stage_pushed : (old new : ℕ → S) → ((j : ℕ) → j + 1 < d → new j ≡ old (j + 1)) → ((j : ℕ) → j + 1 ≡ d → new j ≡ (answer k c pending x).0)
+        → stage_pending k (weight_of r d code c) d new (pushed k c pending x) ≡ pushed k (stage_codes k (weight_of r d code c) d c) (stage_pending k (weight_of r d code c) d old pending) x
+    stage_pushed old new moved last =
+        subst (λ o. stage_pending k o d new (pushed k c pending x) ≡ pushed k (stage_codes k o d c) (stage_pending k o d old pending) x) is (doubled_pushed w d c out old new pending x moved last)
+
+    pub stage_answer : (kept : ℕ → S) → (k.add (k.mul (k.conj w) (kept 0)) (answer k c pending x).1, k.sub (k.mul (k.conj w) (kept 0)) (answer k c pending x).1) ≡ answer k (stage_codes k (weight_of r d code c) d c) (stage_pending k (weight_of r d code c) d kept pending) x
+    stage_answer kept =
+        subst (λ o. (k.add (k.mul (k.conj w) (kept 0)) (answer k c pending x).1, k.sub (k.mul (k.conj w) (kept 0)) (answer k c pending x).1) ≡ answer k (stage_codes k o d c) (stage_pending k o d kept pending) x) is
+        (doubled_answer w d c out kept pending x (works_from_weight r d code c w is).delay_least)

@@ -11,12 +11,9 @@ loop-j-preserved g c =
     subst (λ t. Shifted g.K.Kind c.args.side c.args.x start t (j + 1)) (sym c.put.ensures)
     (shifted_more g.K.Kind c.args.side c.args.x start g.met.K.Kind.encodes (words c.loop-j.table) j c.arriving-next.result c.words.result less c.loop-j.invariant c.arriving-next.ensures c.words.ensures)
 
-pub returns : goal.returns
-returns g c =
+pub returns-clause-rest : goal.returns-clause-rest
+returns-clause-rest g c =
     let kind = g.met.K.Kind in
     let start = words c.args.table.now in
     let end : c.loop-j.j ≡ 9 = omega arith in
-    record {
-      first = c.arriving-out.ensures;
-      rest = shifted_all g.K.Kind c.args.side c.args.x start kind.algebra kind.conjugation (words c.loop-j.table) (subst (Shifted g.K.Kind c.args.side c.args.x start (words c.loop-j.table)) end c.loop-j.invariant);
-    }
+    shifted_all g.K.Kind c.args.side c.args.x start kind.algebra kind.conjugation (words c.loop-j.table) (subst (Shifted g.K.Kind c.args.side c.args.x start (words c.loop-j.table)) end c.loop-j.invariant)

@@ -1,6 +1,8 @@
-use Rattle.std.proofs.Common.{refl}
 use Rattle.golay.proofs.Units.{unit_answer, unit_pushed}
 use Rattle.pairs.proofs.unit.UnitKernelPair.push.Goals as goal
 
-pub returns : goal.returns
-returns g c = let kind = g.met.K.Kind in record { sums = unit_answer kind.algebra kind.conjugation c.args.x; lists = unit_pushed kind.algebra kind.conjugation c.args.x; same = refl }
+pub returns-clause-sums : goal.returns-clause-sums
+returns-clause-sums g c = unit_answer g.met.K.Kind.algebra g.met.K.Kind.conjugation c.args.x
+
+pub returns-clause-lists : goal.returns-clause-lists
+returns-clause-lists g c = unit_pushed g.met.K.Kind.algebra g.met.K.Kind.conjugation c.args.x
