@@ -1,23 +1,17 @@
 -- The test of a list of delays, and what does not depend on their order.
-use Rattle.std.proofs.Common.{◌≡◌, ℕ, ◌≤◌, true, eqb, List, [], ◌∷◌, ◌++◌, length, Decides, refl, ap, ◌∙◌, arith}
+use Rattle.std.proofs.Common.{◌≡◌, ℕ, ◌≤◌, true, eqb, List, [], ◌∷◌, ◌++◌, length, Decides, refl, ap, ◌∙◌}
 use Rattle.std.specs.List.Sorted.{IsPermutation}
 use Rattle.std.specs.List.{ContainsAt as Has, AllByRecursion}
 use Rattle.std.proofs.ByRecursion.{all_has_itself, all_shuffled, Decides-by_and}
-use Rattle.std.proofs.lemmas.List.Sorted.{IsPermutation-refl, IsPermutation-sym, IsPermutation-trans, IsPermutation-cons, IsPermutation-swap}
+use Rattle.std.proofs.lemmas.List.Sorted.{IsPermutation-refl, IsPermutation-sym, IsPermutation-trans, IsPermutation-cons, IsPermutation-middle}
 use Rattle.std.proofs.lemmas.Bool.Decides.{Decides-eqb, Decides-by_or}
 use Rattle.delays.specs.Sets.{doublings, contains, all_in, is_set, InSomeOrder, folded}
 use Rattle.delays.proofs.Splits.{by_splits}
 
--- a number moved from the front to any place
-shuffled_into : (d : ℕ) (xs ys : List ℕ) → IsPermutation (d ∷ (xs ++ ys)) (xs ++ d ∷ ys)
-shuffled_into d [] ys = IsPermutation-refl (d ∷ ys)
-shuffled_into d (x ∷ xs) ys =
-    IsPermutation-trans (d ∷ x ∷ (xs ++ ys)) (x ∷ d ∷ (xs ++ ys)) (x ∷ (xs ++ d ∷ ys)) (IsPermutation-swap (d ∷ x ∷ (xs ++ ys)) (x ∷ d ∷ (xs ++ ys)) 0 1 (omega arith) (omega arith) refl) (IsPermutation-cons x (d ∷ (xs ++ ys)) (xs ++ d ∷ ys) (shuffled_into d xs ys))
-
 -- delays that pass the test are the products in some order
 pub set_shuffled : (kernel : ℕ) (ds : List ℕ) → 1 ≤ kernel → is_set kernel ds ≡ true → InSomeOrder kernel ds
 set_shuffled kernel ds pos h =
-    by_splits IsPermutation (IsPermutation-refl []) (λ d ws xs ys s. IsPermutation-trans (d ∷ ws) (d ∷ (xs ++ ys)) (xs ++ d ∷ ys) (IsPermutation-cons d ws (xs ++ ys) s) (shuffled_into d xs ys)) (length ds) kernel ds pos refl h
+    by_splits IsPermutation (IsPermutation-refl []) (λ d ws xs ys s. IsPermutation-trans (d ∷ ws) (d ∷ (xs ++ ys)) (xs ++ d ∷ ys) (IsPermutation-cons d ws (xs ++ ys) s) (IsPermutation-sym (xs ++ d ∷ ys) (d ∷ (xs ++ ys)) (IsPermutation-middle xs d ys))) (length ds) kernel ds pos refl h
 
 -- the test on one number says whether the list has it
 decides_contains : (wanted : ℕ) (ds : List ℕ) → Decides (contains wanted ds) (Has ds wanted)

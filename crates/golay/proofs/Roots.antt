@@ -1,6 +1,6 @@
 -- Sums of roots of one: turned by a root, added and subtracted they are sums of roots again.
-use Rattle.std.proofs.Common.{◌≡◌, ℕ, zero, suc, ◌+◌, ◌-◌, ◌/◌, ◌%◌, ◌<◌, Bool, true, false, cond, ltb, sym, refl, ap, ◌∙◌, subst, ap₂, subst₂, mod-lt, mod-eq_of_lt, suc-add, zero-add, arith}
-use native.Mathlib.Nat.{mod_self}
+use Rattle.std.proofs.Common.{◌≡◌, ℕ, zero, suc, ◌+◌, ◌-◌, ◌/◌, ◌%◌, ◌<◌, Bool, true, false, cond, ltb, sym, refl, ap, ◌∙◌, subst, ap₂, subst₂, mod-lt, suc-add, zero-add, arith}
+use Rattle.std.proofs.Math.Nat.{add-mod-mod, mod_self}
 use Rattle.kinds.specs.Samples.{RingOps, PolarOps, RingLaws, RootLaws}
 use Rattle.kinds.specs.Rings.{neg, sub_is, add_zero, mul_zero, zero_mul}
 use Rattle.sums.specs.declared.Side.{Side}
@@ -13,17 +13,7 @@ use Rattle.golay.specs.Kernels.{signed}
 
 -- c and what it lacks to n
 round : (c n : ℕ) → c < n → (c + (n - c) % n) % n ≡ 0
-round zero n h = ap (λ t. (0 + t) % n) (ap (λ t. t % n) nothing ∙ mod_self n) ∙ mod-eq_of_lt (omega arith)
-  where
-    nothing : n - 0 ≡ n
-    nothing = omega arith
-round (suc c) n h = ap (λ t. (suc c + t) % n) (mod-eq_of_lt less) ∙ ap (λ t. t % n) whole ∙ mod_self n
-  where
-    less : n - suc c < n
-    less = omega arith
-
-    whole : suc c + (n - suc c) ≡ n
-    whole = omega arith
+round c n h = let whole : c + (n - c) ≡ n = omega arith in add-mod-mod c (n - c) n ∙ ap (λ t. t % n) whole ∙ mod_self n
 
 module _ {S : Type 0} {k : RingOps S} {r : PolarOps S} (ring : RingLaws k) (roots : RootLaws k r) where
   -- a root times its conjugate

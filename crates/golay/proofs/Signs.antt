@@ -1,7 +1,8 @@
 -- Rows of signs: the autocorrelations of a code of signs of one, counted.
 use Rattle.std.proofs.Common.{◌≡◌, ℕ, zero, suc, ◌+◌, Bool, true, false, cond, sym, refl, ap, ◌∙◌, ap₂}
 use Rattle.kinds.specs.Samples.{RingOps, RingLaws, ConjugationLaws}
-use Rattle.kinds.specs.Rings.{add_cancel, mul_zero, zero_mul, mul_one, conj_zero, conj_one, conj_sub}
+use Rattle.kinds.specs.Rings.{mul_zero, zero_mul, mul_one, conj_zero, conj_one, conj_sub}
+use Rattle.kinds.specs.Rings as rings
 use Rattle.sums.specs.Sums.{sum_of, total, times}
 use Rattle.sums.specs.Codes.{autocorrelation}
 use Rattle.sums.proofs.Rings.{sub_mul, sub_zero, middle_sub}
@@ -44,7 +45,7 @@ module _ {S : Type 0} {k : RingOps S} (ring : RingLaws k) (bar : ConjugationLaws
   value_of_cond false c = refl
 
   pub sub_same : (x : S) → k.sub x x ≡ k.zero
-  sub_same x = add_cancel ring _ _ x (ring.sub_add x x ∙ sym (ring.zero_add x))
+  sub_same x = simp (rings.ring, ring)
 
   conj_minus : k.conj (k.sub k.zero k.one) ≡ k.sub k.zero k.one
   conj_minus = conj_sub ring bar _ _ ∙ ap₂ k.sub (conj_zero ring bar) (conj_one ring bar)
@@ -59,8 +60,7 @@ module _ {S : Type 0} {k : RingOps S} (ring : RingLaws k) (bar : ConjugationLaws
   value_product plus minus = ring.one_mul _ ∙ conj_minus
   value_product plus none = ring.one_mul _ ∙ conj_zero ring bar
   value_product minus plus = ap (k.mul _) (conj_one ring bar) ∙ mul_one ring _
-  value_product minus minus =
-      ap (k.mul _) conj_minus ∙ sub_mul ring _ _ _ ∙ ap₂ k.sub (zero_mul ring _) (ring.one_mul _) ∙ add_cancel ring _ _ (k.sub k.zero k.one) (ring.sub_add _ _ ∙ sym (ring.add_comm _ _ ∙ ring.sub_add _ _))
+  value_product minus minus = ap (k.mul _) conj_minus ∙ simp (rings.ring, ring)
   value_product minus none = ap (k.mul _) (conj_zero ring bar) ∙ mul_zero ring _
   value_product none t = zero_mul ring _
 

@@ -1,6 +1,7 @@
 -- When a stage rests and when it works.
 use Rattle.std.proofs.Common.{◌≡◌, ℕ, ◌^◌, ◌<◌, ◌≤◌, Bool, true, false, cond, ◌&&◌, ltb, leb, Some, None, Option, refl, ◌∙◌, arith}
 use Rattle.std.proofs.lemmas.Bool.{and_parts, and_from, leb-true, ltb-true, le-leb, lt-ltb, cond-true}
+use Rattle.kinds.specs.Encodings.{same_some}
 use Rattle.kinds.specs.Samples.{PolarOps}
 use Rattle.sums.specs.Codes.{Codes}
 use Rattle.golay.specs.Stages.{fits_over, weight_of}
@@ -13,9 +14,6 @@ pub record Works {S : Type 0} (r : PolarOps S) (d code : ℕ) (c : Codes S) (w :
   pub span_most : c.span ≤ 3968
   pub code_most : code < r.count
   pub weight_is : w ≡ r.root code
-
-some_same : {S : Type 0} (x y : S) → Some x ≡ Some y → x ≡ y
-some_same x y e = cc
 
 some_cond : {S : Type 0} (b : Bool) (o : Option S) (w : S) → Some w ≡ cond b o None → (b ≡ true) × (Some w ≡ o)
 some_cond true o w e = (refl, e)
@@ -34,7 +32,7 @@ works_from_weight r d code c w e =
       energy_most = leb-true c.energy (2 ^ 19) two.1;
       span_most = leb-true c.span 3968 three.1;
       code_most = ltb-true code r.count inner.0;
-      weight_is = some_same w (r.root code) inner.1;
+      weight_is = same_some w (r.root code) inner.1;
     }
 
 pub weight_from_works : {S : Type 0} (r : PolarOps S) (d code : ℕ) (c : Codes S) → Works r d code c (r.root code) → weight_of r d code c ≡ Some (r.root code)

@@ -6,7 +6,7 @@ use Rattle.sums.specs.declared.Side.TheVariants.{A, B}
 use Rattle.sums.specs.Codes.{Codes, Pending, PairLaws, autocorrelation, correlations}
 use Rattle.sums.specs.Sums.{total, times, late}
 use Rattle.sums.specs.Rooms.{room_answer, correlation, sum_at}
-use Rattle.kinds.specs.Rings.{mul_one, mul_zero, zero_mul, conj_zero}
+use Rattle.kinds.specs.Rings.{mul_left_comm, mul_one, mul_zero, zero_mul, conj_zero}
 use Rattle.sums.proofs.Places.{late_before, late_after}
 use Rattle.sums.proofs.Sums.{ring_sums, sum_same, sum_below, sum_add, sum_past, sum_late, sum_swap, sum_one, sum_back}
 
@@ -22,9 +22,6 @@ module _ {S : Type 0} {k : RingOps S} (ring : RingLaws k) (bar : ConjugationLaws
   -- n times one, times x
   times_one : (x : S) (n : ℕ) → k.mul x (times k n k.one) ≡ times k n x
   times_one x n = sum_scale x (λ i. k.one) n ∙ sum_same (ring_sums ring) (λ i. k.mul x k.one) (λ i. x) (λ i. mul_one ring x) n
-
-  mul_swap : (x y z : S) → k.mul x (k.mul y z) ≡ k.mul y (k.mul x z)
-  mul_swap x y z = sym (ring.mul_assoc x y z) ∙ ap (λ t. k.mul t z) (ring.mul_comm x y) ∙ ring.mul_assoc y x z
 
   module _ (n : ℕ) (f : ℕ → S) (out : (j : ℕ) → n ≤ j → f j ≡ k.zero) where
     -- the answer as a sum over the taps
@@ -63,7 +60,7 @@ module _ {S : Type 0} {k : RingOps S} (ring : RingLaws k) (bar : ConjugationLaws
     correlation_taps h t =
         let sums = ring_sums ring in
         sum_below sums (λ j. k.mul (k.conj (f j)) (room_answer k n f h (j + t))) (λ j. total k (λ m. k.mul (h m) (k.mul (k.conj (f j)) (late k.zero m f (j + t)))) (n + t)) n
-        (λ j lt. ap (k.mul (k.conj (f j))) (room_taps h (n + t) (j + t) (omega arith)) ∙ sum_scale _ _ (n + t) ∙ sum_same sums (λ m. k.mul (k.conj (f j)) (k.mul (h m) (late k.zero m f (j + t)))) (λ m. k.mul (h m) (k.mul (k.conj (f j)) (late k.zero m f (j + t)))) (λ m. mul_swap _ _ _) (n + t))
+        (λ j lt. ap (k.mul (k.conj (f j))) (room_taps h (n + t) (j + t) (omega arith)) ∙ sum_scale _ _ (n + t) ∙ sum_same sums (λ m. k.mul (k.conj (f j)) (k.mul (h m) (late k.zero m f (j + t)))) (λ m. k.mul (h m) (k.mul (k.conj (f j)) (late k.zero m f (j + t)))) (λ m. mul_left_comm ring _ _ _) (n + t))
         ∙ sum_swap sums (λ j m. k.mul (h m) (k.mul (k.conj (f j)) (late k.zero m f (j + t)))) n (n + t)
         ∙ sum_same sums (λ m. total k (λ j. k.mul (h m) (k.mul (k.conj (f j)) (late k.zero m f (j + t)))) n) (λ m. k.mul (h m) (inner t m)) (λ m. sym (sum_scale (h m) (λ j. k.mul (k.conj (f j)) (late k.zero m f (j + t))) n)) (n + t)
 

@@ -2,7 +2,7 @@
 use Rattle.std.proofs.Common.{◌≡◌, ℕ, zero, suc, ◌+◌, ◌*◌, ◌/◌, ◌^◌, ◌<◌, ◌≤◌, ℤ, pos, negsuc, ◌+ℤ◌, ◌*ℤ◌, nat_abs, ap, ◌∙◌, ⊎_elim, le_trans, mul-le-mul, mul-le-mul_left, arith, w64, SFits}
 use borrow.Author.Differences.{up, down}
 use Rattle.std.proofs.lemmas.Bool.{cases_lt}
-use Rattle.std.proofs.lemmas.Int.{ints, int_wrap_fits}
+use Rattle.std.proofs.lemmas.Int.{ints, int_wrap_fits, unsigned_abs-mul}
 use Rattle.std.specs.Int.{int_wrap}
 use Rattle.kinds.specs.Samples.{RingOps, PolarOps}
 use Rattle.sums.specs.Sums.{times}
@@ -37,11 +37,6 @@ rounded_near e E w n (negsuc m) one small same =
     let b : down w ≤ (2 * suc m + e) / (2 * e) + up w + E = near_down e E (suc m) _ (down w) (up w) (down n) (up n) one q.1 s (omega (arith, ints)) in
     omega (arith, ints)
 
--- the absolute value of n times z
-abs_times : (n : ℕ) (z : ℤ) → nat_abs (pos n *ℤ z) ≡ n * nat_abs z
-abs_times n (pos m) = omega (arith, ints)
-abs_times n (negsuc m) = omega (arith, ints)
-
 -- a word of a sample
 pub record Word {S : Type 0} (k : RingOps S) (tu : PolarOps S) (word : S → ℤ) : Type 0 where
   pub add_word : (x y : S) → word (k.add x y) ≡ int_wrap w64 (word x +ℤ word y)
@@ -57,7 +52,7 @@ module _ {S : Type 0} {k : RingOps S} {tu : PolarOps S} {word : S → ℤ} (W : 
   times_word zero x h = W.zero_word ∙ omega (arith, ints)
   times_word (suc n) x h =
       let below = times_word n x (omega arith) in
-      let here : nat_abs (pos n *ℤ word x +ℤ word x) < 2 ^ 63 = omega (arith, ints, abs_times n (word x)) in
+      let here : nat_abs (pos n *ℤ word x +ℤ word x) < 2 ^ 63 = omega (arith, ints, unsigned_abs-mul (pos n) (word x)) in
       W.add_word _ _ ∙ ap (λ z. int_wrap w64 (z +ℤ word x)) below ∙ int_wrap_fits w64 _ (small_fits _ here) ∙ omega (arith, ints)
 
   pub word_near : (e E : ℕ) (x n y : S) → 1 ≤ e → e ≤ 2 ^ 20 → E ≤ 2 ^ 40 → tu.magnitude x ≤ 2 ^ 40 → tu.magnitude n ≤ e * E → y ≡ k.add (times k e x) n → Near E (rounded (word y) e) (word x)
@@ -67,6 +62,6 @@ module _ {S : Type 0} {k : RingOps S} {tu : PolarOps S} {word : S → ℤ} (W : 
       let ex : e * nat_abs (word x) ≤ 2 ^ 20 * 2 ^ 40 = mul-le-mul most (le_trans lx tall) in
       let eE : e * E ≤ 2 ^ 20 * 2 ^ 40 = mul-le-mul most far in
       let product = times_word e x (omega arith) in
-      let fits : nat_abs ((pos e *ℤ word x) +ℤ word n) < 2 ^ 63 = omega (arith, ints, abs_times e (word x)) in
+      let fits : nat_abs ((pos e *ℤ word x) +ℤ word n) < 2 ^ 63 = omega (arith, ints, unsigned_abs-mul (pos e) (word x)) in
       rounded_near e E (word x) (word n) (word y) one (le_trans ln small)
       (ap word same ∙ W.add_word _ _ ∙ ap (λ z. int_wrap w64 (z +ℤ word n)) product ∙ int_wrap_fits w64 _ (small_fits _ fits))
