@@ -11,12 +11,12 @@ use Rattle.kinds.specs.declared.kind_name.KindName.{KindName}
 use Rattle.kinds.specs.declared.kind_name.KindName.TheVariants.{Hall, Radio}
 use Rattle.layout.specs.declared.refusal.FileRefusal.{FileRefusal}
 use Rattle.layout.specs.declared.refusal.FileRefusal.TheVariants.{Length}
-use Rattle.layout.specs.declared.sounding.Sounding.{Sounding}
 use Rattle.layout.specs.Tests.{Test, first_refusal, unless}
 use Rattle.layout.specs.Fields.{kind_of, plan_in, room_byte_of, room_of, records_of}
 use Rattle.layout.specs.Order.{layout_tests}
 use Rattle.reports.specs.Reports.{report_bytes, buffer_after}
 use Rattle.files.specs.KeyCodes.{key_codes}
+use Rattle.files.specs.declared.sounding.SoundingFile.{SoundingFile}
 use Rattle.files.specs.Soundings.{taps, TapsLaws}
 use Rattle.files.specs.Order.{sounding_tests}
 
@@ -27,9 +27,9 @@ abbrev pub radio_kind : KindModel of-radio.Radio
 radio_kind = record { ROOTS = 4; ring = radio_ring; encoding = radio_words; polar = radio_polar }
 
 -- the fields of a file, sounded over a pair with the codes c
-module _ {S : Type 0} (k : KindModel S) (c : Codes S) (s : Sounding) where
-  abbrev pub tests_over : ℕ → ℕ → List Test
-  tests_over size space = sounding_tests k c s.kind s.room s.records.now s.room_byte size space
+module _ {S : Type 0} (k : KindModel S) (c : Codes S) (s : SoundingFile) where
+  abbrev pub tests_over : ℕ → List Test
+  tests_over space = sounding_tests k c s.kind s.room s.records.now s.room_byte s.size space
 
   abbrev pub report_over : List ℕ
   report_over = report_bytes s.kind s.room (taps k c s.kind s.room s.records.now)

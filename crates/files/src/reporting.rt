@@ -8,10 +8,11 @@ ghost use Rattle.reports.specs.Reports.{buffer_after};
 ghost use Rattle.files.specs.Files.{tests_over, report_over, LawsOver, tests_for, report_for, LawsFor, file_tests, input_tests, report_of, ReportLaws, Reports};
 
 use crate::sounding::{SoundingFile, sound};
+use keys::Key;
 use kinds::hall::Hall;
 use kinds::radio::Radio;
 use kinds::{Kind, KindName};
-use layout::{FileRefusal, parse};
+use layout::{FileRefusal, Sounding, parse};
 use pairs::Pair;
 use reports::write_report;
 
@@ -21,26 +22,30 @@ fn report_over<P: Pair + Drop>(
     file: SoundingFile<'_>,
     out: &mut [u8],
 ) -> Result<usize, FileRefusal>
-    ensures { Reports (tests_over P.Sample.Kind (codes_of P.Pair pair) file.entry.fields file.entry.size (length out.old)) (report_over P.Sample.Kind (codes_of P.Pair pair) file.entry.fields) (LawsOver P.Sample.Kind (codes_of P.Pair pair) file.entry.fields) result out.old out.new }
+    ensures { Reports (tests_over P.Sample.Kind (codes_of P.Pair pair) file.entry (length out.old)) (report_over P.Sample.Kind (codes_of P.Pair pair) file.entry) (LawsOver P.Sample.Kind (codes_of P.Pair pair) file.entry) result out.old out.new }
 {
     let taps = sound(pair, file, out.len())?;
-    write_report(out, file.fields.kind, taps.as_slice(), file.size)
+    write_report(out, file.kind, taps.as_slice(), file.size)
 }
 
-// The same over the pair of the file's key, for the kind K.
-fn report_as<K: Kind>(file: SoundingFile<'_>, out: &mut [u8]) -> Result<usize, FileRefusal>
-    ensures { Reports (tests_over K.Kind (key_codes K.Kind (plan_of file.entry.fields.key)) file.entry.fields file.entry.size (length out.old)) (report_over K.Kind (key_codes K.Kind (plan_of file.entry.fields.key)) file.entry.fields) (LawsOver K.Kind (key_codes K.Kind (plan_of file.entry.fields.key)) file.entry.fields) result out.old out.new }
+// The same over the pair of a key, for the kind K.
+fn report_as<K: Kind>(
+    key: &Key,
+    file: SoundingFile<'_>,
+    out: &mut [u8],
+) -> Result<usize, FileRefusal>
+    ensures { Reports (tests_over K.Kind (key_codes K.Kind (plan_of key.now)) file.entry (length out.old)) (report_over K.Kind (key_codes K.Kind (plan_of key.now)) file.entry) (LawsOver K.Kind (key_codes K.Kind (plan_of key.now)) file.entry) result out.old out.new }
 {
-    report_over(file.fields.key.cascade::<K>(), file, out)
+    report_over(key.cascade::<K>(), file, out)
 }
 
 // The same for the kind that the file names.
-fn report_by_kind(file: SoundingFile<'_>, out: &mut [u8]) -> Result<usize, FileRefusal>
-    ensures { Reports (tests_for (plan_of file.entry.fields.key) file.entry.fields.room file.entry.fields.records.now file.entry.fields.kind file.entry.fields.room_byte file.entry.size (length out.old)) (report_for (plan_of file.entry.fields.key) file.entry.fields.room file.entry.fields.records.now file.entry.fields.kind) (LawsFor (plan_of file.entry.fields.key) file.entry.fields.room file.entry.fields.records.now file.entry.fields.kind) result out.old out.new }
+fn report_by_kind(key: &Key, file: SoundingFile<'_>, out: &mut [u8]) -> Result<usize, FileRefusal>
+    ensures { Reports (tests_for (plan_of key.now) file.entry.room file.entry.records.now file.entry.kind file.entry.room_byte file.entry.size (length out.old)) (report_for (plan_of key.now) file.entry.room file.entry.records.now file.entry.kind) (LawsFor (plan_of key.now) file.entry.room file.entry.records.now file.entry.kind) result out.old out.new }
 {
-    match file.fields.kind {
-        KindName::Hall => report_as::<Hall>(file, out),
-        KindName::Radio => report_as::<Radio>(file, out),
+    match file.kind {
+        KindName::Hall => report_as::<Hall>(key, file, out),
+        KindName::Radio => report_as::<Radio>(key, file, out),
     }
 }
 
@@ -53,9 +58,29 @@ pub fn report(file: &[u8], out: &mut [u8]) -> Result<usize, FileRefusal>
     ensures within { IfOk result (λ n. n ≤ length out.old) }
     ensures laws { OnOk result (ReportLaws file.now) }
 {
-    let fields = parse(file)?;
-    let size = file.len();
-    report_by_kind(SoundingFile { fields, size }, out)
+    // By match: the check has no rule yet for `?` on a struct that holds both a reference and a key.
+    match parse(file) {
+        Ok(
+            Sounding {
+                key,
+                kind,
+                room,
+                room_byte,
+                records,
+            },
+        ) => {
+            let size = file.len();
+            let sounding = SoundingFile {
+                kind,
+                room,
+                room_byte,
+                records,
+                size,
+            };
+            report_by_kind(&key, sounding, out)
+        }
+        Err(refusal) => Err(refusal),
+    }
 }
 
 // Whether a program refuses to look at an input.

@@ -14,17 +14,21 @@ use crate::samples::Record;
 use crate::taps::gather;
 use arrayvec::ArrayVec;
 use calls::Phase;
-use layout::{FileRefusal, Sounding};
+use kinds::KindName;
+use layout::FileRefusal;
 use pairs::Pair;
 use reports::report_length;
 use sounder::Sounder;
 
-// A sounding file that was read: its fields, and its length.
+// A sounding file that was read: what it says beside its key, and its length.
 #[derive(Clone, Copy)]
 pub(crate) struct SoundingFile<'a> {
-    pub fields: Sounding<'a>,
+    pub kind: KindName,
+    pub room: usize,
+    pub room_byte: usize,
+    pub records: &'a [u8],
     pub size: usize,
-    ghost sized: { fields.room_byte + 2 + length fields.records.now ≡ size },
+    ghost sized: { room_byte + 2 + length records.now ≡ size },
 }
 
 // What follows the first record.
@@ -61,15 +65,15 @@ pub(crate) fn sound<P: Pair + Drop>(
     file: SoundingFile<'_>,
     space: usize,
 ) -> Result<ArrayVec<(i64, i64), 256>, FileRefusal>
-    ensures { Decided (record_tests P.Sample.Kind (codes_of P.Pair pair) file.entry.fields.kind file.entry.fields.room file.entry.fields.records.now file.entry.fields.room_byte file.entry.size space) result (λ t. Sounded P.Sample.Kind (codes_of P.Pair pair) file.entry.fields.kind file.entry.fields.room file.entry.fields.records.now space t.items) }
+    ensures { Decided (record_tests P.Sample.Kind (codes_of P.Pair pair) file.entry.kind file.entry.room file.entry.records.now file.entry.room_byte file.entry.size space) result (λ t. Sounded P.Sample.Kind (codes_of P.Pair pair) file.entry.kind file.entry.room file.entry.records.now space t.items) }
 {
-    let Sounding {
+    let SoundingFile {
         kind,
         room,
         room_byte: at,
         records: bytes,
-        ..
-    } = file.fields;
+        size,
+    } = file;
     let span = pair.span();
     let mut sounder = Sounder::new(pair);
     at_byte(sounder.open(room), at)?;
@@ -78,7 +82,7 @@ pub(crate) fn sound<P: Pair + Drop>(
         return Err(FileRefusal::Length { byte: at + 2 });
     }
     if space < report_length(kind, room as u16) {
-        return Err(FileRefusal::Buffer { byte: file.size });
+        return Err(FileRefusal::Buffer { byte: size });
     }
     let first = Record {
         kind,

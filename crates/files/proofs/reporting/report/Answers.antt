@@ -1,5 +1,4 @@
 use Rattle.std.proofs.Common.{◌≡◌, length, IfOk, Some, Option, sym, ap, ◌∙◌, subst}
-use Rattle.std.proofs.lemmas.Result.{err_from_is_err_and}
 use Rattle.keys.specs.Plans.{plan_of}
 use Rattle.layout.specs.declared.refusal.FileRefusal.{FileRefusal}
 use Rattle.layout.specs.Tests.{first_refusal, unless}
@@ -12,30 +11,28 @@ use Rattle.files.specs.Files.{tests_for, report_for, LawsFor, file_tests, report
 use Rattle.files.proofs.Answers.{refuses, keeps}
 use Rattle.files.proofs.reporting.report.Goals as goal
 
-pub returns-in_err-fields : goal.returns-in_err-fields
-returns-in_err-fields c =
+pub returns-in-Err : goal.returns-in-Err
+returns-in-Err c =
     let file = c.args.file.now in
     let out = c.args.out.now in
-    let p = err_from_is_err_and c.from_residual.result c.from_residual.ensures.1 in
     let all = file_tests file (length out) in
     let rest = tests_for (plan_in file) (room_of file) (records_of file) (kind_of file) (room_byte_of file) (length file) (length out) in
-    let e : first_refusal all ≡ Some c.in_err-fields.field-0.0 = stopped (layout_tests file) rest c.in_err-fields.field-0.0 c.in_err-fields.ensures in
-    rw (p.1, p.2) (record {
-      order = comes all c.in_err-fields.field-0.0 e;
-      value = refuses (first_refusal all) (length (report_of file)) c.in_err-fields.field-0.0 e;
-      after = keeps (first_refusal all) (report_of file) out c.in_err-fields.field-0.0 e;
+    let e : first_refusal all ≡ Some c.in-Err.refusal = stopped (layout_tests file) rest c.in-Err.refusal c.in-Err.ensures in
+    record {
+      order = comes all c.in-Err.refusal e;
+      value = refuses (first_refusal all) (length (report_of file)) c.in-Err.refusal e;
+      after = keeps (first_refusal all) (report_of file) out c.in-Err.refusal e;
       within = tt;
       laws = tt;
-    })
+    }
 
-pub returns : goal.returns
-returns c =
+pub returns-in-Ok : goal.returns-in-Ok
+returns-in-Ok c =
     let file = c.args.file.now in
     let out = c.args.out.now in
-    let s = c.in_ok-fields.fields in
-    let parsed = c.in_ok-fields.ensures in
+    let parsed = c.in-Ok.ensures in
     let F = parsed.1 in
-    let P : plan_of s.key ≡ plan_in file = F.key_is in
+    let P : plan_of c.in-Ok.field-0.key ≡ plan_in file = F.key_is in
     let all = file_tests file (length out) in
     let rest = tests_for (plan_in file) (room_of file) (records_of file) (kind_of file) (room_byte_of file) (length file) (length out) in
     let past : first_refusal all ≡ first_refusal rest = passed (layout_tests file) rest parsed.0 in

@@ -14,14 +14,14 @@ pub returns-in_err-taps : goal.returns-in_err-taps
 returns-in_err-taps g c =
     let k = g.P.Sample.Kind in
     let d = codes_of g.P.Pair c.args.pair in
-    let kind = c.args.file.fields.kind in
-    let room = c.args.file.fields.room in
-    let records = c.args.file.fields.records.now in
+    let kind = c.args.file.kind in
+    let room = c.args.file.room in
+    let records = c.args.file.records.now in
     let out = c.args.out.now in
     let p = err_from_is_err_and c.from_residual.result c.from_residual.ensures.1 in
     let ts = taps k d kind room records in
-    let all = sounding_tests k d kind room records c.args.file.fields.room_byte c.args.file.size (length out) in
-    let e : first_refusal all ≡ Some c.in_err-taps.field-0.0 = stopped (record_tests k d kind room records c.args.file.fields.room_byte c.args.file.size (length out)) (tap_tests c.args.file.size ts) c.in_err-taps.field-0.0 c.in_err-taps.ensures in
+    let all = sounding_tests k d kind room records c.args.file.room_byte c.args.file.size (length out) in
+    let e : first_refusal all ≡ Some c.in_err-taps.field-0.0 = stopped (record_tests k d kind room records c.args.file.room_byte c.args.file.size (length out)) (tap_tests c.args.file.size ts) c.in_err-taps.field-0.0 c.in_err-taps.ensures in
     let report = report_bytes kind room ts in
     rw (p.1, p.2) (record { value = refuses (first_refusal all) (length report) c.in_err-taps.field-0.0 e; after = keeps (first_refusal all) report out c.in_err-taps.field-0.0 e; within = tt; laws = tt })
 
@@ -29,10 +29,10 @@ pub returns : goal.returns
 returns g c =
     let k = g.P.Sample.Kind in
     let d = codes_of g.P.Pair c.args.pair in
-    let kind = c.args.file.fields.kind in
-    let room = c.args.file.fields.room in
-    let records = c.args.file.fields.records.now in
-    let at = c.args.file.fields.room_byte in
+    let kind = c.args.file.kind in
+    let room = c.args.file.room in
+    let records = c.args.file.records.now in
+    let at = c.args.file.room_byte in
     let size = c.args.file.size in
     let out = c.args.out.now in
     let ts = taps k d kind room records in
