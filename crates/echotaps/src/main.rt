@@ -1,12 +1,9 @@
 // Reads one sounding file from standard input, and writes its report or the line that says why it is refused: echotaps < file
 #![tactic(auto)]
 
-mod stop;
-
-use crate::stop::{Stop, tell};
 use files::report_input;
 use filetext::refusal_line;
-use layout::FileRefusal;
+use programs::status;
 use std::io;
 use std::io::{Read, Write};
 use std::process::ExitCode;
@@ -18,27 +15,22 @@ fn read_input(rt: &HostRuntime) -> io::Result<Vec<u8>> {
     Ok(input)
 }
 
-fn print_refusal(rt: &HostRuntime, refusal: FileRefusal) -> Result<(), Stop> {
-    rt.print(refusal_line(rt.alloc(), refusal)?)?;
-    Err(Stop::Refused)
-}
-
-fn run(rt: &HostRuntime) -> Result<(), Stop> {
+fn run(rt: &HostRuntime) -> io::Result<ExitCode> {
     let input = read_input(rt)?;
     // the longest report has 256 taps of 4 bytes
     let mut out = [0; 1030];
     match report_input(input.as_slice(), &mut out) {
-        Ok(length) => Ok(rt.stdout().write_all(&out[0..length])?),
-        Err(refusal) => print_refusal(rt, refusal),
+        Ok(length) => {
+            rt.stdout().write_all(&out[..length])?;
+            Ok(ExitCode::SUCCESS)
+        }
+        Err(refusal) => {
+            rt.print(refusal_line(rt.alloc(), refusal)?)?;
+            Ok(ExitCode::FAILURE)
+        }
     }
 }
 
 fn main(rt: HostRuntime) -> ExitCode {
-    match run(&rt) {
-        Ok(()) => ExitCode::SUCCESS,
-        Err(stop) => {
-            tell(&rt, &stop);
-            ExitCode::FAILURE
-        }
-    }
+    status(&rt, "echotaps", run(&rt))
 }

@@ -6,54 +6,47 @@ mod sheet;
 mod sounding;
 mod stop;
 
-use crate::script::{KeyLine, calls_of, first_line, key_line};
+use crate::script::{calls_of, first_line, key_line};
 use crate::sheet::{refused_key, sheet};
 use crate::sounding::run_over;
-use crate::stop::{Stop, tell};
-use keys::Key;
-use kinds::{Kind, KindName};
+use crate::stop::Stop;
 use kinds::hall::Hall;
 use kinds::radio::Radio;
+use kinds::{Kind, KindName};
+use programs::status;
+use scripts::KeyWords;
 use std::io;
 use std::process::ExitCode;
 
-// Reads all calls, gives them to a sounder, and prints the sheet as one text.
-fn print_answers<K: Kind>(rt: &HostRuntime, key: &Key, script: &str) -> Result<(), Stop> {
+// Gives the calls to a sounder over the key that is asked for, filled for the kind K, and prints the answers
+// as one text, or why the key is refused.
+fn answer<K: Kind>(rt: &HostRuntime, asked: &KeyWords, script: &str) -> Result<ExitCode, Stop> {
     let heap = rt.alloc();
-    let mut events = calls_of(heap, script)?;
-    run_over::<K>(key, events.as_mut_slice());
-    Ok(rt.print(sheet(heap, script, events.as_slice())?)?)
-}
-
-// Fills a key for the kind K, and prints the answers or why the key is refused.
-fn answer<K: Kind>(rt: &HostRuntime, asked: &KeyLine, script: &str) -> Result<(), Stop> {
-    let mut key = Key::built_in();
-    match key.fill::<K>(asked.kernel, asked.stages.as_slice()) {
-        Ok(()) => print_answers::<K>(rt, &key, script),
+    match asked.key::<K>() {
+        Ok(key) => {
+            let mut events = calls_of(heap, script)?;
+            run_over::<K>(&key, events.as_mut_slice());
+            rt.print(sheet(heap, script, events.as_slice())?)?;
+            Ok(ExitCode::SUCCESS)
+        }
         Err(refusal) => {
-            rt.print(refused_key(rt.alloc(), script, refusal)?)?;
-            Err(Stop::Refused)
+            rt.print(refused_key(heap, script, refusal)?)?;
+            Ok(ExitCode::FAILURE)
         }
     }
 }
 
-fn run(rt: &HostRuntime) -> Result<(), Stop> {
+fn run(rt: &HostRuntime) -> Result<ExitCode, Stop> {
     let script = io::read_to_string(rt.alloc(), rt.stdin())?;
-    let Some(asked) = key_line(rt.alloc(), first_line(script.as_str()))? else {
-        return Err(Stop::NoKey);
-    };
+    let script = script.as_str();
+    let asked = key_line(rt.alloc(), first_line(script))?.ok_or(Stop::NoKey)?;
+    // each kind is a type of its own, so a name picks one of two calls
     match asked.kind {
-        KindName::Hall => answer::<Hall>(rt, &asked, script.as_str()),
-        KindName::Radio => answer::<Radio>(rt, &asked, script.as_str()),
+        KindName::Hall => answer::<Hall>(rt, &asked, script),
+        KindName::Radio => answer::<Radio>(rt, &asked, script),
     }
 }
 
 fn main(rt: HostRuntime) -> ExitCode {
-    match run(&rt) {
-        Ok(()) => ExitCode::SUCCESS,
-        Err(stop) => {
-            tell(&rt, &stop);
-            ExitCode::FAILURE
-        }
-    }
+    status(&rt, "replay", run(&rt))
 }

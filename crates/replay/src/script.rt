@@ -1,19 +1,8 @@
 // A script: a key line, and then one call a line.
 use crate::stop::Stop;
-use calls::{Answer, Call, Event};
-use keys::KeyStage;
-use keytext::{kind_name, number, stage};
-use kinds::KindName;
-use scripts::call_of;
+use calls::{Answer, Event};
+use scripts::{KeyWords, call_of, key_words};
 use std::alloc::{AllocError, Global};
-
-// What the key line asks for.
-#[derive(Drop)]
-pub struct KeyLine {
-    pub kind: KindName,
-    pub kernel: u8,
-    pub stages: Vec<KeyStage>,
-}
 
 // The words of a line, which are separated by one or more ASCII blanks.
 pub fn words_of<'a>(heap: Global, line: &'a str) -> Result<Vec<&'a str>, AllocError> {
@@ -22,66 +11,31 @@ pub fn words_of<'a>(heap: Global, line: &'a str) -> Result<Vec<&'a str>, AllocEr
 
 // The first line, empty if there is none.
 pub fn first_line(script: &str) -> &str {
-    match script.lines().next() {
-        Some(line) => line,
-        None => "",
+    script.lines().next().unwrap_or("")
+}
+
+// What the key line asks for, absent if the line is none.
+pub fn key_line(heap: Global, line: &str) -> Result<Option<KeyWords>, AllocError> {
+    match words_of(heap, line)?.as_slice() {
+        ["key", words @ ..] => key_words(heap, words),
+        _ => Ok(None),
     }
 }
 
-// The stages of some words, absent if one of them is none.
-fn stages_of(heap: Global, words: &[&str]) -> Result<Option<Vec<KeyStage>>, AllocError> {
-    let mut stages = Vec::new(heap);
-    for word in words {
-        let Some(one) = stage(word) else {
-            return Ok(None);
-        };
-        stages.push(one)?;
-    }
-    Ok(Some(stages))
-}
-
-// The key that a line asks for, absent if the line is none.
-pub fn key_line(heap: Global, line: &str) -> Result<Option<KeyLine>, AllocError> {
+// The call of the line of this number. The answer that stands beside it is still to be given.
+fn call_line(heap: Global, line: &str, number: usize) -> Result<Event, Stop> {
     let words = words_of(heap, line)?;
-    let ["key", kind, kernel, stages @ ..] = words.as_slice() else {
-        return Ok(None);
-    };
-    let Some(kind) = kind_name(kind) else {
-        return Ok(None);
-    };
-    let Some(kernel) = number(kernel) else {
-        return Ok(None);
-    };
-    let Some(stages) = stages_of(heap, stages)? else {
-        return Ok(None);
-    };
-    Ok(Some(KeyLine {
-        kind,
-        kernel,
-        stages,
-    }))
-}
-
-// The call of a line, absent if the line is none.
-fn call_line(heap: Global, line: &str) -> Result<Option<Call>, AllocError> {
-    let words = words_of(heap, line)?;
-    Ok(call_of(words.as_slice()))
-}
-
-fn push_call(events: &mut Vec<Event>, call: Call) -> Result<(), AllocError> {
+    let call = call_of(words.as_slice()).ok_or(Stop::NoCall(number))?;
     let answer = Answer::Done;
-    events.push(Event { call, answer })?;
-    Ok(())
+    Ok(Event { call, answer })
 }
 
-// The calls of all lines after the first. The answers that stand beside them are still to be given.
+// The calls of all lines after the first.
 pub fn calls_of(heap: Global, script: &str) -> Result<Vec<Event>, Stop> {
-    let mut events = Vec::new(heap);
-    for (i, line) in script.lines().enumerate().skip(1) {
-        let Some(call) = call_line(heap, line)? else {
-            return Err(Stop::NoCall(i + 1));
-        };
-        push_call(&mut events, call)?;
-    }
-    Ok(events)
+    script
+        .lines()
+        .skip(1)
+        .zip(2..)
+        .map(|(line, number)| -> Result<Event, Stop> { call_line(heap, line, number) })
+        .try_collect(heap)
 }

@@ -1,41 +1,23 @@
 // Why a run ends early.
 use std::alloc::AllocError;
 use std::io;
+use thiserror::Error;
 
-#[derive(Drop)]
+#[derive(Debug, Drop, Error)]
 pub enum Stop {
-    // the first line is no key line
+    #[error("line 1: expected key KIND KERNEL [DELAY:CODE]... with KIND hall or radio, the rest decimal numbers")]
     NoKey,
-    // the line of this number, counted from 1, is no call
+    // the number of the line, counted from 1
+    #[error("line {0}: expected open N, sample X Y, turn, close, abandon, code SIDE INDEX, sum INDEX or tap INDEX, all decimal numbers")]
     NoCall(usize),
-    // the key is refused, and the line that says so is printed
-    Refused,
     // the script can't be read, memory runs out or a write fails
-    Failed(io::Error),
+    #[error(transparent)]
+    Failed(#[from] io::Error),
 }
 
-impl From<io::Error> for Stop {
-    fn from(error: io::Error) -> Stop {
-        Stop::Failed(error)
-    }
-}
-
+// An io::Error tells of memory in its own words, so this is no variant of its own.
 impl From<AllocError> for Stop {
     fn from(error: AllocError) -> Stop {
         Stop::Failed(error.into())
     }
-}
-
-// What standard error is told. If it can't be written there is nobody left to tell.
-pub fn tell(rt: &HostRuntime, stop: &Stop) {
-    let _ = match stop {
-        Stop::NoKey => rt.eprintln(
-            "replay: line 1: expected key KIND KERNEL [DELAY:CODE]... with KIND hall or radio, the rest decimal numbers",
-        ),
-        Stop::NoCall(line) => eprintln!(rt;
-            "replay: line {line}: expected open N, sample X Y, turn, close, abandon, code SIDE INDEX, sum INDEX or tap INDEX, all decimal numbers",
-        ),
-        Stop::Refused => Ok(()),
-        Stop::Failed(error) => eprintln!(rt; "replay: {error}"),
-    };
 }
