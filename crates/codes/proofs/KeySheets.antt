@@ -5,7 +5,8 @@ use Rattle.sums.specs.declared.Side.{Side}
 use Rattle.keys.specs.Plans.{Plan}
 use Rattle.keys.specs.Recursion.{key_code}
 use Rattle.kinds.specs.declared.kind_name.KindName.{KindName}
-use Rattle.codes.specs.Sheets.{sheet_of, key_span, key_sheet}
+use Rattle.keys.specs.KeyCodes.{key_span}
+use Rattle.codes.specs.Sheets.{sheet_of, key_sheet}
 
 pub sheet_of_key : {S : Type 0} (kind : KindName) (k : KindModel S) (p : Plan) (span energy : ℕ) (code : Side → ℕ → S) → code ≡ key_code k p → span ≡ key_span k.polar.count p → energy ≡ 2 * span → sheet_of kind k.encoding span energy code ≡ key_sheet kind k p
 sheet_of_key kind k p span energy code is_code is-span is-energy =

@@ -1,10 +1,11 @@
 -- The bytes of a sheet: four lines.
-use Rattle.std.specs.Prelude.{ℕ, ◌*◌, ◌^◌, List, ◌++◌, length, codes, decimal}
+use Rattle.std.specs.Prelude.{ℕ, ◌*◌, List, ◌++◌, codes, decimal}
 use Rattle.kinds.specs.Kinds.{KindModel}
 use Rattle.kinds.specs.Samples.{WordOps}
 use Rattle.sums.specs.declared.Side.{Side}
 use Rattle.sums.specs.declared.Side.TheVariants.{A, B}
-use Rattle.keys.specs.Plans.{Plan, stages_for}
+use Rattle.keys.specs.Plans.{Plan}
+use Rattle.keys.specs.KeyCodes.{key_span}
 use Rattle.keys.specs.Recursion.{key_code}
 use Rattle.kinds.specs.declared.kind_name.KindName.{KindName}
 use Rattle.codes.specs.Lines.{line_of}
@@ -20,10 +21,6 @@ sheet_with span energy a b =
 -- a pair by its span, its energy and its codes
 abbrev pub sheet_of : {S : Type 0} → KindName → WordOps S → ℕ → ℕ → (Side → ℕ → S) → List ℕ
 sheet_of kind w span energy code = sheet_with span energy (line_of kind w A (code A) span) (line_of kind w B (code B) span)
-
--- the span of the codes of a key: the kernel times two for each stage that works
-abbrev pub key_span : ℕ → Plan → ℕ
-key_span roots p = p.kernel * 2 ^ length (stages_for roots p)
 
 -- the sheet of a key: the codes of the recursion, and an energy of twice the span
 abbrev pub key_sheet : {S : Type 0} → KindName → KindModel S → Plan → List ℕ

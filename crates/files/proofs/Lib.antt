@@ -1,4 +1,3 @@
-pub mod KeyCodes
 pub mod Steps
 pub mod Runs
 pub mod RecordTests

@@ -15,7 +15,7 @@ use Rattle.layout.specs.Tests.{Test, first_refusal, unless}
 use Rattle.layout.specs.Fields.{kind_of, plan_in, room_byte_of, room_of, records_of}
 use Rattle.layout.specs.Order.{layout_tests}
 use Rattle.reports.specs.Reports.{report_bytes, buffer_after}
-use Rattle.files.specs.KeyCodes.{key_codes}
+use Rattle.keys.specs.KeyCodes.{key_codes}
 use Rattle.files.specs.declared.sounding.SoundingFile.{SoundingFile}
 use Rattle.files.specs.Soundings.{taps, TapsLaws}
 use Rattle.files.specs.Order.{sounding_tests}

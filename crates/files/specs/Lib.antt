@@ -1,4 +1,3 @@
-pub mod KeyCodes
 pub mod Samples
 pub mod Soundings
 pub mod Order

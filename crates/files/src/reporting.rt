@@ -2,7 +2,7 @@
 ghost use Rattle.std.specs.Prelude.{◌≡◌, ◌+◌, ◌≤◌, length, IfOk, OnOk, nat_lt};
 ghost use Rattle.keys.specs.Plans.{plan_of};
 ghost use Rattle.pairs.specs.Pairs.{codes_of};
-ghost use Rattle.files.specs.KeyCodes.{key_codes};
+ghost use Rattle.keys.specs.KeyCodes.{key_codes};
 ghost use Rattle.layout.specs.Tests.{first_refusal, unless, Ordered};
 ghost use Rattle.reports.specs.Reports.{buffer_after};
 ghost use Rattle.files.specs.Files.{tests_over, report_over, LawsOver, tests_for, report_for, LawsFor, file_tests, input_tests, report_of, ReportLaws, Reports};

@@ -3,3 +3,4 @@ pub mod Accepted
 pub mod Built
 pub mod Cascades
 pub mod Padding
+pub mod KeyCodes

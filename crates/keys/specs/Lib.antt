@@ -4,3 +4,4 @@ pub mod KernelNames
 pub mod StageLists
 pub mod Plans
 pub mod Recursion
+pub mod KeyCodes

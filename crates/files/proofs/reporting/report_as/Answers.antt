@@ -1,7 +1,7 @@
 use Rattle.std.proofs.Common.{length, subst}
 use Rattle.sums.specs.Codes.{Codes}
 use Rattle.keys.specs.Plans.{plan_of}
-use Rattle.files.proofs.KeyCodes.{codes_of_key}
+use Rattle.keys.proofs.KeyCodes.{codes_of_key}
 use Rattle.files.specs.Files.{tests_over, report_over, LawsOver, Reports}
 use Rattle.files.proofs.reporting.report_as.Goals as goal
 

@@ -2,7 +2,7 @@ use Rattle.std.proofs.Common.{◌≡◌, ℕ, List, length, Result, sym, subst}
 use Rattle.kinds.specs.Kinds.{KindModel}
 use Rattle.sums.specs.Codes.{Codes}
 use Rattle.keys.specs.Plans.{Plan, plan_of}
-use Rattle.files.specs.KeyCodes.{key_codes}
+use Rattle.keys.specs.KeyCodes.{key_codes}
 use Rattle.kinds.specs.declared.kind_name.KindName.{KindName}
 use Rattle.kinds.specs.declared.kind_name.KindName.TheVariants.{Hall, Radio}
 use Rattle.layout.specs.declared.refusal.FileRefusal.{FileRefusal}

@@ -2,7 +2,7 @@ use Rattle.std.proofs.Common.{ap, ◌∙◌}
 use Rattle.keys.specs.Plans.{plan_of}
 use Rattle.sums.specs.Codes.{Codes}
 use Rattle.calls.specs.Runs.{new, calls_of, answers}
-use Rattle.replay.proofs.KeyCodes.{codes_of_key}
+use Rattle.keys.proofs.KeyCodes.{codes_of_key}
 use Rattle.replay.proofs.sounding.run_over.Goals as goal
 
 pub returns : goal.returns
