@@ -38,6 +38,7 @@ pub(crate) fn feed<P: Pair>(
     ensures state { OnOk result (state_of P.Sample.Kind P.Pair sounder.new ≡ led P.Sample.Kind (sample_calls (samples_in samples.entry.kind samples.entry.bytes.now samples.entry.count)) (state_of P.Sample.Kind P.Pair sounder.old)) }
     ensures taken { OnOk result (Took samples.entry.count (state_of P.Sample.Kind P.Pair sounder.old) (state_of P.Sample.Kind P.Pair sounder.new)) }
 {
+    // by number: it gives both the sample and the byte that a refusal names
     for t in 0..samples.count {
         let answer = give(sounder, samples.sample(t));
         at_byte(answer, samples.byte(t))?;

@@ -52,6 +52,7 @@ pub trait Kind: Copy {
         ensures { result ≡ (encoding.first self, encoding.second self) };
 
     // The sample of two words; `None` exactly if they are no sample's words.
+    // Two parameters and no struct of two words: each kind would take it apart at once.
     fn from_words(first: i64, second: i64) -> Option<Self>
         ensures { result ≡ encoding.sample first second };
 
