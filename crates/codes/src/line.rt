@@ -1,13 +1,14 @@
 // The line of a code: its name and its entries.
-ghost use Rattle.std.specs.Prelude.{◌≡◌, ◌<◌, ◌++◌, IfOk, string_bytes, OnOk};
+ghost use Rattle.std.specs.Prelude.{◌≡◌, ◌++◌, IfOk, string_bytes, OnOk};
 ghost use Rattle.codes.specs.Lines.{name_of, entry_in, line_of};
 
-use crate::text::entry_text;
 use kinds::{Kind, KindName};
 use pairs::Pair;
 use std::alloc::{AllocError, Global};
+use std::fmt::Write;
 use sums::Side;
 
+// A match and no Display, which only the crate that has the type can give it.
 fn side_name(side: Side) -> &'static str
     ensures { result.now ≡ name_of side }
 {
@@ -17,28 +18,15 @@ fn side_name(side: Side) -> &'static str
     }
 }
 
-// Entry k of a code, which has one at every place below the span.
-fn entry_at<P: Pair>(pair: &P, side: Side, k: usize) -> P::Sample
-    ensures { k < P.Pair.span pair.now → result ≡ P.Pair.code pair.now side k }
-{
-    match pair.entry(side, k) {
-        Some(entry) => entry,
-        None => P::Sample::zero(),
-    }
-}
-
-// Puts an entry behind the line.
-fn push_entry<K: Kind>(
-    heap: Global,
-    kind: KindName,
-    line: &mut String,
-    entry: K,
-) -> Result<(), AllocError>
+// Puts an entry behind the line, after a blank. In the hall kind the second word is always 0 and left out.
+fn push_entry<K: Kind>(line: &mut String, kind: KindName, entry: K) -> Result<(), AllocError>
     ensures { OnOk result (string_bytes line.new ≡ string_bytes line.old ++ entry_in kind K.Kind.encoding entry) }
 {
     let (first, second) = entry.words();
-    let text = entry_text(heap, kind, first, second)?;
-    line.push_str(text.as_str())
+    match kind {
+        KindName::Hall => write!(line, " {first}"),
+        KindName::Radio => write!(line, " {first},{second}"),
+    }
 }
 
 // One code: its name and its entries.
@@ -52,7 +40,7 @@ pub fn code_line<P: Pair>(
 {
     let mut line = String::from_str(heap, side_name(side))?;
     for k in 0..pair.span() {
-        push_entry(heap, kind, &mut line, entry_at(pair, side, k))?;
+        push_entry(&mut line, kind, pair.entry_or_zero(side, k))?;
     }
     Ok(line)
 }

@@ -3,7 +3,6 @@
 
 mod line;
 mod sheet;
-mod text;
 
 use crate::sheet::key_sheet;
 use kinds::hall::Hall;

@@ -1,6 +1,6 @@
 // The sheet of a key: the span, the energy and the two codes.
 ghost use Rattle.std.specs.Prelude.{◌≡◌, IfOk, string_bytes};
-ghost use Rattle.codes.specs.Sheets.{sheet_with, sheet_of, key_sheet};
+ghost use Rattle.codes.specs.Sheets.{sheet_of, key_sheet};
 ghost use Rattle.keys.specs.Plans.{plan_of};
 
 use crate::line::code_line;
@@ -10,18 +10,6 @@ use pairs::Pair;
 use std::alloc::{AllocError, Global};
 use sums::Side;
 
-fn sheet_with(
-    heap: Global,
-    span: usize,
-    energy: u32,
-    a: &str,
-    b: &str,
-) -> Result<String, AllocError>
-    ensures { IfOk result (λ s. string_bytes s ≡ sheet_with span energy a.now b.now) }
-{
-    format!(in heap; "span {span}\nenergy {energy}\n{a}\n{b}\n")
-}
-
 // The sheet of a pair.
 fn pair_sheet<P: Pair>(heap: Global, kind: KindName, pair: &P) -> Result<String, AllocError>
     ensures { IfOk result (λ s. string_bytes s ≡ sheet_of kind P.Sample.Kind.encoding (P.Pair.span pair.now) (P.Pair.energy pair.now) (P.Pair.code pair.now)) }
@@ -29,7 +17,7 @@ fn pair_sheet<P: Pair>(heap: Global, kind: KindName, pair: &P) -> Result<String,
     let (span, energy) = pair.size();
     let a = code_line(heap, kind, pair, Side::A)?;
     let b = code_line(heap, kind, pair, Side::B)?;
-    sheet_with(heap, span, energy, a.as_str(), b.as_str())
+    format!(in heap; "span {span}\nenergy {energy}\n{a}\n{b}\n")
 }
 
 // The sheet of a key for the kind K: the codes of the recursion.
