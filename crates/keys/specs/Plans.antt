@@ -1,9 +1,8 @@
 -- What a key holds, and which of its stages work for a kind.
-use Rattle.std.specs.Prelude.{ℕ, cond, List, [], length, Some, None, Option, ◌==◌, nat_lt, slice_index_or}
+use Rattle.std.specs.Prelude.{◌≡◌, ℕ, true, cond, is_ok, List, [], length, Some, None, Option, ◌==◌, nat_lt, slice_index_or}
 use Rattle.keys.specs.declared.stage.KeyStage.{KeyStage}
-use Rattle.keys.specs.declared.key.Key.{Key}
 pub use Rattle.keys.specs.StageLists.{at_rest}
-use Rattle.keys.specs.KernelNames.{number_of}
+use Rattle.keys.specs.Judged.{judged}
 
 pub record Plan : Type 0 where
   pub kernel : ℕ
@@ -13,8 +12,9 @@ pub record Plan : Type 0 where
 abbrev pub plan : ℕ → ℕ → List KeyStage → Plan
 plan kernel roots stages = record { kernel = kernel; roots = roots; stages = stages }
 
-abbrev pub plan_of : Key → Plan
-plan_of k = plan (number_of k.kernel) k.roots k.stages
+-- a key is one that would be accepted
+abbrev pub IsSound : Plan → Type 0
+IsSound p = is_ok (judged p.roots p.kernel p.stages) ≡ true
 
 -- for a kind with another number of roots than the key was filled for, all stages rest
 abbrev pub stages_for : ℕ → Plan → List KeyStage

@@ -1,7 +1,7 @@
 ghost use Rattle.std.specs.Prelude.{◌≡◌, [], Ok, MatchResult};
 ghost use Rattle.keys.specs.Judged.{judged};
 ghost use Rattle.keys.specs.KernelNames.{number_of};
-ghost use Rattle.keys.specs.Plans.{plan, plan_of};
+ghost use Rattle.keys.specs.Plans.{plan};
 
 use crate::check::check_stages;
 use crate::kernel::KernelName;
@@ -14,7 +14,7 @@ use kinds::Kind;
 impl Key {
     // Kernel 1, two roots, no stage.
     pub fn built_in() -> Self
-        ensures { plan_of result ≡ plan 1 2 [] }
+        ensures { result ≡ plan 1 2 [] }
     {
         Key {
             kernel: KernelName::Unit,
@@ -26,7 +26,7 @@ impl Key {
     // The key of numbers that passed all tests.
     fn of(kernel: KernelName, roots: u8, stages: &[KeyStage]) -> Self
         requires { judged roots (number_of kernel) stages.now ≡ Ok tt }
-        ensures { plan_of result ≡ plan (number_of kernel) roots stages.now }
+        ensures { result ≡ plan (number_of kernel) roots stages.now }
     {
         Key {
             kernel,
@@ -38,7 +38,7 @@ impl Key {
     // Replaces the key whole, for the kind K, or refuses and leaves it as it is.
     pub fn fill<K: Kind>(&mut self, kernel: u8, stages: &[KeyStage]) -> Result<(), KeyRefusal>
         ensures answer { result ≡ judged K.Kind.polar.count kernel stages.now }
-        ensures key { MatchResult result (λ _. plan_of self.new ≡ plan kernel K.Kind.polar.count stages.now) (λ _. self.new ≡ self.old) }
+        ensures key { MatchResult result (λ _. self.new ≡ plan kernel K.Kind.polar.count stages.now) (λ _. self.new ≡ self.old) }
     {
         let roots = K::root_count();
         let kernel = KernelName::try_from(kernel)?;
