@@ -1,7 +1,6 @@
 // The sheet of a key: the span, the energy and the two codes.
 ghost use Rattle.std.specs.Prelude.{◌≡◌, IfOk, string_bytes};
 ghost use Rattle.codes.specs.Sheets.{sheet_of, key_sheet};
-ghost use Rattle.keys.specs.Plans.{plan_of};
 
 use crate::line::code_line;
 use keys::Key;
@@ -22,7 +21,7 @@ fn pair_sheet<P: Pair>(heap: Global, kind: KindName, pair: &P) -> Result<String,
 
 // The sheet of a key for the kind K: the codes of the recursion.
 pub fn key_sheet<K: Kind>(heap: Global, kind: KindName, key: &Key) -> Result<String, AllocError>
-    ensures { IfOk result (λ s. string_bytes s ≡ key_sheet kind K.Kind (plan_of key.now)) }
+    ensures { IfOk result (λ s. string_bytes s ≡ key_sheet kind K.Kind key.now) }
 {
     pair_sheet(heap, kind, &key.cascade::<K>())
 }

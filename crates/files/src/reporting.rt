@@ -1,6 +1,5 @@
 // The report of a sounding file.
 ghost use Rattle.std.specs.Prelude.{◌≡◌, ◌+◌, ◌≤◌, length, IfOk, OnOk, nat_lt};
-ghost use Rattle.keys.specs.Plans.{plan_of};
 ghost use Rattle.pairs.specs.Pairs.{codes_of};
 ghost use Rattle.keys.specs.KeyCodes.{key_codes};
 ghost use Rattle.layout.specs.Tests.{first_refusal, unless, Ordered};
@@ -34,14 +33,14 @@ fn report_as<K: Kind>(
     file: SoundingFile<'_>,
     out: &mut [u8],
 ) -> Result<usize, FileRefusal>
-    ensures { Reports (tests_over K.Kind (key_codes K.Kind (plan_of key.now)) file.entry (length out.old)) (report_over K.Kind (key_codes K.Kind (plan_of key.now)) file.entry) (LawsOver K.Kind (key_codes K.Kind (plan_of key.now)) file.entry) result out.old out.new }
+    ensures { Reports (tests_over K.Kind (key_codes K.Kind key.now) file.entry (length out.old)) (report_over K.Kind (key_codes K.Kind key.now) file.entry) (LawsOver K.Kind (key_codes K.Kind key.now) file.entry) result out.old out.new }
 {
     report_over(key.cascade::<K>(), file, out)
 }
 
 // The same for the kind that the file names.
 fn report_by_kind(key: &Key, file: SoundingFile<'_>, out: &mut [u8]) -> Result<usize, FileRefusal>
-    ensures { Reports (tests_for (plan_of key.now) file.entry.room file.entry.records.now file.entry.kind file.entry.room_byte file.entry.size (length out.old)) (report_for (plan_of key.now) file.entry.room file.entry.records.now file.entry.kind) (LawsFor (plan_of key.now) file.entry.room file.entry.records.now file.entry.kind) result out.old out.new }
+    ensures { Reports (tests_for key.now file.entry.room file.entry.records.now file.entry.kind file.entry.room_byte file.entry.size (length out.old)) (report_for key.now file.entry.room file.entry.records.now file.entry.kind) (LawsFor key.now file.entry.room file.entry.records.now file.entry.kind) result out.old out.new }
 {
     match file.kind {
         KindName::Hall => report_as::<Hall>(key, file, out),
@@ -60,24 +59,16 @@ pub fn report(file: &[u8], out: &mut [u8]) -> Result<usize, FileRefusal>
 {
     // By match: the check has no rule yet for `?` on a struct that holds both a reference and a key.
     match parse(file) {
-        Ok(
-            Sounding {
-                key,
-                kind,
-                room,
-                room_byte,
-                records,
-            },
-        ) => {
+        Ok(sounding) => {
             let size = file.len();
-            let sounding = SoundingFile {
-                kind,
-                room,
-                room_byte,
-                records,
+            let file = SoundingFile {
+                kind: sounding.kind,
+                room: sounding.room,
+                room_byte: sounding.room_byte,
+                records: sounding.records,
                 size,
             };
-            report_by_kind(&key, sounding, out)
+            report_by_kind(&sounding.key, file, out)
         }
         Err(refusal) => Err(refusal),
     }

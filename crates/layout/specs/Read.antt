@@ -1,6 +1,5 @@
 -- What is read from a file that passes the tests.
 use Rattle.std.specs.Prelude.{◌≡◌, ℕ, ◌+◌, ◌*◌, ◌≤◌, List, length, drop}
-use Rattle.keys.specs.Plans.{plan_of}
 use Rattle.layout.specs.declared.head.Head.{Head}
 use Rattle.layout.specs.declared.fields.Fields.{Fields}
 use Rattle.layout.specs.declared.sounding.Sounding.{Sounding}
@@ -21,7 +20,7 @@ pub record FieldsRead (bytes : List ℕ) (count : ℕ) (f : Fields) : Type 0 whe
   pub enough : 2 * count + 2 ≤ length bytes
 
 pub record FileRead (file : List ℕ) (s : Sounding) : Type 0 where
-  pub key_is : plan_of s.key ≡ plan_in file
+  pub key_is : s.key ≡ plan_in file
   pub kind_is : s.kind ≡ kind_of file
   pub room_is : s.room ≡ room_of file
   pub byte_is : s.room_byte ≡ room_byte_of file

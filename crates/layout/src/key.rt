@@ -1,7 +1,7 @@
 // The key of a sounding file.
 ghost use Rattle.std.specs.Prelude.{◌≡◌, ◌^◌, ◌<◌, ◌≤◌, length, IfErr, MatchResult};
 ghost use Rattle.keys.specs.Judged.{count_judged, judged};
-ghost use Rattle.keys.specs.Plans.{plan, plan_of};
+ghost use Rattle.keys.specs.Plans.{plan};
 ghost use Rattle.kinds.specs.KindNames.{roots};
 ghost use Rattle.layout.specs.Tests.{first_refusal, unless, Decided};
 ghost use Rattle.layout.specs.Order.{key_byte, key_says};
@@ -51,7 +51,7 @@ fn fill_for(
     stages: &[KeyStage],
 ) -> Result<(), KeyRefusal>
     ensures answer { result ≡ judged (roots kind) kernel stages.now }
-    ensures key { MatchResult result (λ _. plan_of key.new ≡ plan kernel (roots kind) stages.now) (λ _. key.new ≡ key.old) }
+    ensures key { MatchResult result (λ _. key.new ≡ plan kernel (roots kind) stages.now) (λ _. key.new ≡ key.old) }
 {
     match kind {
         KindName::Hall => key.fill::<Hall>(kernel, stages),
@@ -62,7 +62,7 @@ fn fill_for(
 // The key of a file.
 pub(crate) fn key_for(kind: KindName, kernel: u8, stages: &[KeyStage]) -> Result<Key, FileRefusal>
     requires { length stages.now ≤ 7 }
-    ensures { Decided (key_says (judged (roots kind) kernel stages.now)) result (λ key. plan_of key ≡ plan kernel (roots kind) stages.now) }
+    ensures { Decided (key_says (judged (roots kind) kernel stages.now)) result (λ key. key ≡ plan kernel (roots kind) stages.now) }
 {
     let mut key = Key::built_in();
     in_file(fill_for(&mut key, kind, kernel, stages))?;

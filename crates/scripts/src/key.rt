@@ -2,7 +2,7 @@
 ghost use Rattle.std.specs.Prelude.{◌≡◌, map, Ok, Err, IfOk, MatchResult};
 ghost use Rattle.std.specs.Option.{option_map};
 ghost use Rattle.keys.specs.Judged.{judged};
-ghost use Rattle.keys.specs.Plans.{plan, plan_of};
+ghost use Rattle.keys.specs.Plans.{plan};
 ghost use Rattle.scripts.specs.Keys.{asked, stages_of, key_words_of};
 
 use keys::{Key, KeyRefusal, KeyStage};
@@ -54,7 +54,7 @@ impl KeyWords {
     // The key that is asked for, filled for the kind K, or why it is refused.
     pub fn key<K: Kind>(&self) -> Result<Key, KeyRefusal>
         ensures judged { MatchResult result (λ _. judged K.Kind.polar.count self.now.kernel self.now.stages.items ≡ Ok tt) (λ e. judged K.Kind.polar.count self.now.kernel self.now.stages.items ≡ Err e) }
-        ensures key { IfOk result (λ key. plan_of key ≡ plan self.now.kernel K.Kind.polar.count self.now.stages.items) }
+        ensures key { IfOk result (λ key. key ≡ plan self.now.kernel K.Kind.polar.count self.now.stages.items) }
     {
         let mut key = Key::built_in();
         key.fill::<K>(self.kernel, self.stages.as_slice())?;

@@ -1,5 +1,4 @@
 use Rattle.std.proofs.Common.{◌≡◌, length, IfOk, Some, Option, sym, ap, ◌∙◌, subst}
-use Rattle.keys.specs.Plans.{plan_of}
 use Rattle.layout.specs.declared.refusal.FileRefusal.{FileRefusal}
 use Rattle.layout.specs.Tests.{first_refusal, unless}
 use Rattle.layout.specs.Fields.{kind_of, plan_in, room_byte_of, room_of, records_of}
@@ -32,7 +31,7 @@ returns-in-Ok c =
     let out = c.args.out.now in
     let parsed = c.in-Ok.ensures in
     let F = parsed.1 in
-    let P : plan_of c.in-Ok.field-0.key ≡ plan_in file = F.key_is in
+    let P : c.in-Ok.sounding.key ≡ plan_in file = F.key_is in
     let all = file_tests file (length out) in
     let rest = tests_for (plan_in file) (room_of file) (records_of file) (kind_of file) (room_byte_of file) (length file) (length out) in
     let past : first_refusal all ≡ first_refusal rest = passed (layout_tests file) rest parsed.0 in

@@ -1,7 +1,7 @@
 use Rattle.std.proofs.Common.{◌≡◌, ℕ, List, length, Result, sym, subst}
 use Rattle.kinds.specs.Kinds.{KindModel}
 use Rattle.sums.specs.Codes.{Codes}
-use Rattle.keys.specs.Plans.{Plan, plan_of}
+use Rattle.keys.specs.Plans.{Plan}
 use Rattle.keys.specs.KeyCodes.{key_codes}
 use Rattle.kinds.specs.declared.kind_name.KindName.{KindName}
 use Rattle.kinds.specs.declared.kind_name.KindName.TheVariants.{Hall, Radio}
@@ -29,14 +29,14 @@ named p s r d e v is =
 
 pub returns-in-Hall : goal.returns-in-Hall
 returns-in-Hall c =
-    let p = plan_of c.args.key.now in
+    let p = c.args.key.now in
     let is : c.args.file.kind ≡ Hall = c.in-Hall.is in
     named p c.args.file c.report_as.result c.args.out.now c.report_as.new.out Hall is
     (at_kind hall_kind (key_codes hall_kind p) c.args.file c.report_as.result c.args.out.now c.report_as.new.out Hall is c.report_as.ensures)
 
 pub returns-in-Radio : goal.returns-in-Radio
 returns-in-Radio c =
-    let p = plan_of c.args.key.now in
+    let p = c.args.key.now in
     let is : c.args.file.kind ≡ Radio = c.in-Radio.is in
     named p c.args.file c.report_as-in-Radio.result c.args.out.now c.report_as-in-Radio.new.out Radio is
     (at_kind radio_kind (key_codes radio_kind p) c.args.file c.report_as-in-Radio.result c.args.out.now c.report_as-in-Radio.new.out Radio is c.report_as-in-Radio.ensures)

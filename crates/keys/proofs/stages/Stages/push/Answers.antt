@@ -7,4 +7,4 @@ pub invariant_of-self : goal.invariant_of-self
 invariant_of-self c =
     let whole = count_is c.self.invariant in
     let held = ap length c.self.view_is in
-    one_laid c.self.inside.count c.self.inside.held c.args.stage (omega arith) c.self.invariant
+    one_laid c.self.inside.count c.self.inside.held _ (omega arith) c.self.invariant
