@@ -3,7 +3,7 @@ use keys::{Key, KeyRefusal, KeyStage, check_kernel, check_stage_count, delays_fi
 use kinds::Kind;
 use kinds::hall::Hall;
 use kinds::radio::Radio;
-use refusals::Refused;
+use refusals::{Refused, Told};
 use std::process::Abort;
 use std::test::Fail;
 
@@ -22,17 +22,18 @@ fn check_refused<K: Kind>(
     let mut key = Key::built_in();
     key.fill::<Hall>(1, &[stage(2, 1), stage(1, 0)])?;
     let before = key;
-    match key.fill::<K>(kernel, stages) {
-        Ok(()) => Err(Fail::new("accepted")),
-        Err(refusal) => {
-            assert_eq!(rt;
-                (refusal.number(), refusal.layer(), refusal.place()),
-                (number, 2, place)
-            );
-            assert_eq!(rt; key, before);
-            Ok(())
-        }
-    }
+    let layer = 2;
+    assert_eq!(rt;
+        key.fill::<K>(kernel, stages)
+            .map_err(|refusal| refusal.told()),
+        Err(Told {
+            number,
+            layer,
+            place
+        })
+    );
+    assert_eq!(rt; key, before);
+    Ok(())
 }
 
 #[test]

@@ -2,6 +2,8 @@
 use keys::KeyStage;
 use keytext::{kind_name, number, stage};
 use kinds::KindName;
+use scripts::{KeyWords, key_words};
+use std::test::Fail;
 
 #[test]
 fn kind_names(rt: HostRuntime) {
@@ -34,4 +36,20 @@ fn stages_are_two_numbers(rt: HostRuntime) {
     for word in ["1:", ":1", "1", "1:2:3", "1:x", ":"] {
         assert!(rt; stage(word).is_none());
     }
+}
+
+// The kind, the kernel and how many stages are asked for.
+fn outline(asked: KeyWords) -> (KindName, u8, usize) {
+    (asked.kind, asked.kernel, asked.stages.len())
+}
+
+#[test]
+fn words_of_a_key(rt: HostRuntime) -> Result<(), Fail> {
+    let asked = key_words(rt.alloc(), &["radio", "10", "20:3", "10:2"])?;
+    assert_eq!(rt; asked.map(outline), Some((KindName::Radio, 10, 2)));
+    let asked = key_words(rt.alloc(), &["hall", "1"])?;
+    assert_eq!(rt; asked.map(outline), Some((KindName::Hall, 1, 0)));
+    assert!(rt; key_words(rt.alloc(), &["hall"])?.is_none());
+    assert!(rt; key_words(rt.alloc(), &["hall", "1", "1"])?.is_none());
+    Ok(())
 }

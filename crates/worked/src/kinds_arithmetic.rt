@@ -5,18 +5,12 @@ use kinds::radio::Radio;
 
 // The sample of two words, or zero if they are no sample's.
 pub(crate) fn sample<K: Kind>(first: i64, second: i64) -> K {
-    match K::from_words(first, second) {
-        Some(x) => x,
-        None => K::zero(),
-    }
+    K::from_words(first, second).unwrap_or(K::zero())
 }
 
 // The root of a code, or zero if it has none.
 fn root<K: Kind>(code: u8) -> K {
-    match K::root(code) {
-        Some(x) => x,
-        None => K::zero(),
-    }
+    K::root(code).unwrap_or(K::zero())
 }
 
 #[test]

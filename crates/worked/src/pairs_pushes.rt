@@ -8,14 +8,6 @@ use std::process::Abort;
 use sums::Side;
 use tables::WordTable;
 
-// Entry k of a code, or zero past its end.
-pub(crate) fn entry_or_zero<P: Pair>(pair: &P, side: Side, k: usize) -> P::Sample {
-    match pair.entry(side, k) {
-        Some(x) => x,
-        None => P::Sample::zero(),
-    }
-}
-
 // Pushes a whole number, and answers the first words of both sums.
 fn push_number<P: Pair>(pair: &mut P, x: i64) -> (i64, i64) {
     let (p, q) = pair.push(sample(x, 0));
@@ -24,8 +16,7 @@ fn push_number<P: Pair>(pair: &mut P, x: i64) -> (i64, i64) {
 
 // Each row is a number to push and the two sums that come out.
 fn check_pushes<P: Pair>(rt: &impl Abort, pair: &mut P, rows: &[(i64, i64, i64)]) {
-    for row in rows {
-        let (x, p, q) = *row;
+    for &(x, p, q) in rows {
         assert_eq!(rt; push_number(pair, x), (p, q));
     }
 }
@@ -125,8 +116,8 @@ fn stages_that_rest(rt: HostRuntime) {
 pub(crate) fn check_correlation<P: Pair + Drop>(rt: &impl Abort, mut one: P, mut other: P) {
     let (span, energy) = one.size();
     for t in 0..400 {
-        let a = entry_or_zero(&one, Side::A, t);
-        let b = entry_or_zero(&other, Side::B, t);
+        let a = one.entry_or_zero(Side::A, t);
+        let b = other.entry_or_zero(Side::B, t);
         let (p, _) = one.push(a);
         let (_, q) = other.push(b);
         let wanted = if t + 1 == span { energy as i64 } else { 0 };
@@ -145,7 +136,7 @@ fn ten_entry_kernel_finds_its_code(rt: HostRuntime) {
     let mut pair: Kernel<Hall> = Kernel::ten();
     let mut last = (0, 0);
     for k in 0..10 {
-        let x = entry_or_zero(&pair, Side::A, k);
+        let x = pair.entry_or_zero(Side::A, k);
         last = push_number(&mut pair, x.words().0);
     }
     assert_eq!(rt; last, (10, 0));

@@ -14,8 +14,8 @@ fn small_hall() -> Sounder<Stage<Kernel<Hall>>> {
 }
 
 fn give_record<P: Pair>(rt: &impl Abort, sounder: &mut Sounder<P>, record: &[(i64, i64)]) {
-    for (x, y) in record {
-        assert_eq!(rt; sounder.sample(*x, *y), Ok(()));
+    for &(x, y) in record {
+        assert_eq!(rt; sounder.sample(x, y), Ok(()));
     }
 }
 
