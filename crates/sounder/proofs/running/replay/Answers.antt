@@ -1,6 +1,6 @@
-use Rattle.std.proofs.Common.{◌≡◌, ◌+◌, ◌≤◌, take, set, sym, refl, ap, ◌∙◌, subst, subst₂, arith}
+use Rattle.std.proofs.Common.{◌≡◌, ◌+◌, take, set, sym, refl, ap, ◌∙◌, subst, subst₂, arith}
 use Rattle.kinds.specs.Kinds.{KindLaws}
-use Rattle.sums.specs.Codes.{Codes, Pending, PairLaws}
+use Rattle.sums.specs.Codes.{Codes, Pending}
 use Rattle.pairs.specs.Pairs.{codes_of}
 use Rattle.calls.specs.declared.call.Event.{Event}
 use Rattle.calls.specs.declared.call.Call.TheVariants.{Open}
@@ -16,10 +16,6 @@ use Rattle.sounder.proofs.running.replay.Goals as goal
 laws : (g : given.Over) → KindLaws g.P.Sample.Kind
 laws g = let met = g.met.P.Sample.Kind in record { algebra = met.algebra; conjugation = met.conjugation; wordwise = met.wordwise; encodes = met.encodes; unity = met.unity; magnitudes = met.magnitudes }
 
--- the laws of the pair that the new sounder holds: it is the pair given
-held_laws : (g : given.Over) (codes : Codes g.row.P-Sample.Denot) (d : Codes g.row.P-Sample.Denot) (p q : Pending g.row.P-Sample.Denot) → codes ≡ d → p ≡ q → PairLaws g.P.Sample.Kind.ring g.P.Sample.Kind.polar d q → PairLaws g.P.Sample.Kind.ring g.P.Sample.Kind.polar codes p
-held_laws g codes d p q e f P = subst₂ (PairLaws g.P.Sample.Kind.ring g.P.Sample.Kind.polar) (sym e) (sym f) P
-
 pub loop-event-init : goal.loop-event-init
 loop-event-init g c =
     let k = g.P.Sample.Kind in
@@ -27,17 +23,14 @@ loop-event-init g c =
     let K = laws g in
     let first = c.new-sounder.result.pair in
     let value = c.new-sounder.ensures.value in
-    let codes : codes_of g.P.Pair first ≡ codes_of g.P.Pair c.args.pair = ap (λ (t : State S). t.codes) value in
-    let one : 1 ≤ (codes_of g.P.Pair first).span = subst (λ (d : Codes S). 1 ≤ d.span) (sym codes) c.new-sounder.ensures.laws.span_least in
+    let one = (g.met.P.Pair.laws first).span_least in
     (refl, record { answered = tt; standing = stands_new k (codes_of g.P.Pair first) (g.P.Pair.pending first) K.algebra K.conjugation one (state_of k g.P.Pair c.new-sounder.result) refl refl (ap (λ (t : State S). t.phase) value) (ap (λ (t : State S). t.room) value) (ap (λ (t : State S). t.count) value) (λ i. ap (λ (t : State S). t.sums i) value) })
 
 pub loop-event-preserved : goal.loop-event-preserved
 loop-event-preserved g c =
     let k = g.P.Sample.Kind in
-    let S = g.row.P-Sample.Denot in
     let first = c.new-sounder.result.pair in
-    let value = c.new-sounder.ensures.value in
-    let P = held_laws g (codes_of g.P.Pair first) _ (g.P.Pair.pending first) _ (ap (λ (t : State S). t.codes) value) (ap (λ (t : State S). t.pending) value) c.new-sounder.ensures.laws in
+    let P = g.met.P.Pair.laws first in
     let s = state_of k g.P.Pair c.loop-event.sounder in
     let es = c.loop-event.run in
     let i = c.loop-event.event-index in
@@ -59,7 +52,7 @@ returns g c =
     let value = c.new-sounder.ensures.value in
     let codes = ap (λ (t : State S). t.codes) value in
     let pending = ap (λ (t : State S). t.pending) value in
-    let P = held_laws g (codes_of g.P.Pair first) _ (g.P.Pair.pending first) _ codes pending c.new-sounder.ensures.laws in
+    let P = g.met.P.Pair.laws first in
     let s = state_of k g.P.Pair c.loop-event.sounder in
     let run = c.loop-event.run in
     let inv = c.loop-event.invariant in
