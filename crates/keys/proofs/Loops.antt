@@ -1,7 +1,6 @@
 -- What is looked for among the stages is what is asked of them.
-use Rattle.std.proofs.Common.{◌≡◌, ℕ, suc, ◌+◌, ◌-◌, ◌*◌, ◌<◌, ◌≤◌, true, false, cond, ◌&&◌, ◌||◌, eqb, leb, ltb, List, [], ◌∷◌, Some, Option, refl, ap, ◌∙◌, arith}
+use Rattle.std.proofs.Common.{◌≡◌, ℕ, suc, ◌+◌, ◌-◌, ◌*◌, ◌<◌, true, cond, ◌&&◌, ◌||◌, eqb, leb, ltb, List, [], ◌∷◌, Some, Option, refl, ap, ◌∙◌, arith}
 use Rattle.std.specs.List.{list_any, position, position_from}
-use Rattle.std.proofs.lemmas.Bool.{and_left}
 use Rattle.std.proofs.lemmas.Iterator.Adapters.{position_from-zero}
 use Rattle.std.proofs.lemmas.Bool.Decides.{nat_tests}
 use Rattle.delays.specs.Sets.{doublings, contains, all_in}
@@ -27,11 +26,5 @@ module _ (n i d : ℕ) (ds : List ℕ) (h : i < n) where
   one_more : all_in (doublings d (n - i)) ds ≡ (contains d ds && all_in (doublings (2 * d) (n - (i + 1))) ds)
   one_more = let e : n - i ≡ suc (n - (i + 1)) = omega arith in ap (λ t. all_in (doublings d t) ds) e
 
-  pub set_lacks : contains d ds ≡ false → all_in (doublings d (n - i)) ds ≡ false
-  set_lacks e = one_more ∙ and_left _ _ e
-
   pub set_goes_on : contains d ds ≡ true → all_in (doublings d (n - i)) ds ≡ all_in (doublings (2 * d) (n - (i + 1))) ds
   set_goes_on e = one_more ∙ ap (λ t. t && all_in (doublings (2 * d) (n - (i + 1))) ds) e
-
-pub set_ends : (n i d : ℕ) (ds : List ℕ) → n ≤ i → all_in (doublings d (n - i)) ds ≡ true
-set_ends n i d ds h = let e : n - i ≡ 0 = omega arith in ap (λ t. all_in (doublings d t) ds) e
