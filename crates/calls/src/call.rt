@@ -14,7 +14,7 @@ pub enum Call {
     Turn,
     Close,
     Abandon,
-    // the side (0 for A, 1 for B) and the index
+    // the side (0 for A, 1 for B) and the index; a number, since one that is no side is refused as an index is
     Code(u8, usize),
     Sum(usize),
     Tap(usize),

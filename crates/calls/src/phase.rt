@@ -11,6 +11,7 @@ pub enum Phase {
 }
 
 impl Phase {
+    // The place of a refusal. By name, since a From for u8 would not say which number it is.
     pub fn number(self) -> u8
         ensures { result ≡ phase_number self }
     {

@@ -15,4 +15,3 @@ pub use check::{check_kernel, check_stage_count, delays_fit};
 pub use key::Key;
 pub use refusal::KeyRefusal;
 pub use stage::KeyStage;
-pub use stages::Stages;

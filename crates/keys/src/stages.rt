@@ -1,11 +1,11 @@
-ghost use Rattle.std.specs.Prelude.{◌≡◌, ◌<◌, ◌≤◌, ◌++◌, [], ◌∷◌, length};
+ghost use Rattle.std.specs.Prelude.{◌≡◌, ◌≤◌, [], length};
 
 use crate::stage::KeyStage;
 use std::marker::Model;
 
 // A list of up to seven stages, with no heap. A key is copied, so this is, and the ArrayVec of the kit is not.
 #[derive(Clone, Copy, PartialEq, Eq, Debug)]
-pub struct Stages {
+pub(crate) struct Stages {
     held: [KeyStage; 7],
     count: usize,
 }
@@ -29,7 +29,7 @@ impl Model for Stages {
 impl Stages {
     ghost use Rattle.keys.specs.StageLists.{padded};
 
-    pub fn new() -> Self
+    pub(crate) fn new() -> Self
         ensures { result ≡ [] }
     {
         Stages {
@@ -50,7 +50,7 @@ impl Stages {
         }
     }
 
-    pub fn as_slice(&self) -> &[KeyStage]
+    pub(crate) fn as_slice(&self) -> &[KeyStage]
         ensures { result.now ≡ self.now }
     {
         &self.held[..self.count]
@@ -61,13 +61,5 @@ impl Stages {
         ensures { result ≡ padded self.now }
     {
         self.held
-    }
-
-    pub fn push(&mut self, stage: KeyStage)
-        requires { length self.old < 7 }
-        ensures { self.new ≡ self.old ++ stage ∷ [] }
-    {
-        self.held[self.count] = stage;
-        self.count += 1;
     }
 }
