@@ -29,7 +29,7 @@ module _ {S : Type 0} (k : KindModel S) where
   pub nine_read : WordLaws k.ring k.encoding → SampleLaws k.encoding → (t : WordTable 9) (j : ℕ) → sample_of k.ring k.encoding (words t j) ≡ nine k (words t) j
   nine_read word encodes t j =
       let read = λ (w : ℤ × ℤ). sample_of k.ring k.encoding w in
-      let w = get_or t.places j (pos 0, pos 0) in
+      let w : ℤ × ℤ = (get_or t.first j (pos 0), get_or t.second j (pos 0)) in
       elim (ltb j 9) as (λ b. read (cond b w (pos 0, pos 0)) ≡ cond b (read (cond b w (pos 0, pos 0))) k.ring.zero) [
         | true ↦ refl
         | false ↦ sample_zero k.ring encodes word

@@ -51,7 +51,7 @@ fn shift_in<K: Kind>(table: &mut WordTable<9>, side: Side, x: K) -> K
     ensures rest { nine K.Kind (words table.new) ≡ (λ j. matching K.Kind.ring 10 (ten_entry K.Kind.ring side) (nine K.Kind (words table.old)) x (j + 1)) }
 {
     let out = arriving(table, side, 0, x);
-    // By place: each one is written from the next, which no iterator lends along with it.
+    // By index: place j is written from place j + 1, which no iterator over the table lends with it.
     for j in 0..9 {
         let next: K = arriving(table, side, j + 1, x);
         table.put(j, next.words());

@@ -23,9 +23,12 @@ module _ {S : Type 0} {none : S} {add : S → S → S} (laws : SumLaws none add)
   swap a b c d =
       laws.assoc a b _ ∙ ap (add a) (sym (laws.assoc b c d) ∙ ap (λ t. add t d) (laws.comm b c) ∙ laws.assoc c b d) ∙ sym (laws.assoc a c _)
 
+  pub sum_below : (f g : ℕ → S) (n : ℕ) → ((i : ℕ) → i < n → f i ≡ g i) → sum f n ≡ sum g n
+  sum_below f g zero e = refl
+  sum_below f g (suc n) e = ap₂ add (sum_below f g n (λ i h. e i (omega arith))) (e n (omega arith))
+
   pub sum_same : (f g : ℕ → S) → ((i : ℕ) → f i ≡ g i) → (n : ℕ) → sum f n ≡ sum g n
-  sum_same f g e zero = refl
-  sum_same f g e (suc n) = ap₂ add (sum_same f g e n) (e n)
+  sum_same f g e n = sum_below f g n (λ i h. e i)
 
   pub sum_add : (f g : ℕ → S) (n : ℕ) → sum (λ i. add (f i) (g i)) n ≡ add (sum f n) (sum g n)
   sum_add f g zero = sym (laws.left none)
@@ -49,10 +52,6 @@ module _ {S : Type 0} {none : S} {add : S → S → S} (laws : SumLaws none add)
   pub sum_twice : (x : S) (m n : ℕ) → sum (λ i. x) (m + n) ≡ add (sum (λ i. x) m) (sum (λ i. x) n)
   sum_twice x m zero = ap (sum (λ i. x)) (add-zero m) ∙ sym (laws.comm _ _ ∙ laws.left _)
   sum_twice x m (suc n) = ap (sum (λ i. x)) (add-suc m n) ∙ ap (λ t. add t x) (sum_twice x m n) ∙ laws.assoc _ _ _
-
-  pub sum_below : (f g : ℕ → S) (n : ℕ) → ((i : ℕ) → i < n → f i ≡ g i) → sum f n ≡ sum g n
-  sum_below f g zero e = refl
-  sum_below f g (suc n) e = ap₂ add (sum_below f g n (λ i h. e i (omega arith))) (e n (omega arith))
 
   pub sum_swap : (f : ℕ → ℕ → S) (n m : ℕ) → sum (λ i. sum (λ j. f i j) m) n ≡ sum (λ j. sum (λ i. f i j) n) m
   sum_swap f zero m = sym (sum_none (λ j. none) m (λ i h. refl))

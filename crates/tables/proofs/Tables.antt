@@ -6,4 +6,4 @@ use Rattle.tables.specs.Tables.{zeros}
 
 -- a table of zeros has zeros at every place
 pub zeros_at : (n i : ℕ) → zeros n i ≡ (pos 0, pos 0)
-zeros_at n i = cond_both (ltb i n) _ _ (λ t. t ≡ (pos 0, pos 0)) (λ e. get_or-replicate n i _ _ (ltb-true i n e)) (λ e. refl)
+zeros_at n i = cond_both (ltb i n) _ _ (λ t. t ≡ (pos 0, pos 0)) (λ e. let z = get_or-replicate n i (pos 0) (pos 0) (ltb-true i n e) in λ t. (z t, z t)) (λ e. refl)

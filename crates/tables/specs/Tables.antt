@@ -3,16 +3,16 @@ use Rattle.std.specs.Prelude.{ℕ, cond, ◌&&◌, List, replicate, ℤ, pos, So
 use Rattle.kinds.specs.Samples.{RingOps, WordOps}
 use Rattle.tables.specs.declared.table.WordTable.{WordTable}
 
--- n places, zeros past the last
-abbrev pub held : ℕ → List (ℤ × ℤ) → ℕ → ℤ × ℤ
-held n places i = cond (nat_lt i n) (slice_index_or places i (pos 0, pos 0)) (pos 0, pos 0)
+-- two columns of n words, zeros past the last
+abbrev pub columns : ℕ → List ℤ → List ℤ → ℕ → ℤ × ℤ
+columns n first second i = cond (nat_lt i n) (slice_index_or first i (pos 0), slice_index_or second i (pos 0)) (pos 0, pos 0)
 
 abbrev pub words : {n : ℕ} → WordTable n → ℕ → ℤ × ℤ
-words {n} t = held n t.places
+words {n} t = columns n t.first t.second
 
 -- a table of zeros
 abbrev pub zeros : ℕ → ℕ → ℤ × ℤ
-zeros n = held n (replicate n (pos 0, pos 0))
+zeros n = columns n (replicate n (pos 0)) (replicate n (pos 0))
 
 -- a table of n places after two words were written to place i
 abbrev pub written : ℕ → (ℕ → ℤ × ℤ) → ℕ → ℤ × ℤ → ℕ → ℤ × ℤ

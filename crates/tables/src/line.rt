@@ -5,7 +5,7 @@ use crate::table::WordTable;
 use kinds::Kind;
 
 // The 128 latest values of a row of samples: each goes to the place after the last one's.
-// Clauses name both fields, since they say too at which place the next value goes.
+// No `Model`: the clauses promise the place of the next value too, so what they see would be both fields again.
 #[derive(Drop)]
 pub struct DelayLine {
     table: WordTable<128>,

