@@ -39,6 +39,7 @@ pub fn code_line<P: Pair>(
     ensures { IfOk result (λ s. string_bytes s ≡ line_of kind P.Sample.Kind.encoding side (P.Pair.code pair.now side) (P.Pair.span pair.now)) }
 {
     let mut line = String::from_str(heap, side_name(side))?;
+    // a pair has no list of its entries: it computes each by its place
     for k in 0..pair.span() {
         push_entry(&mut line, kind, pair.entry_or_zero(side, k))?;
     }

@@ -14,6 +14,7 @@ use std::process::ExitCode;
 use std::{env, io};
 
 // Prints the codes of the key that is asked for, filled for the kind K, as one text, or why it is refused.
+// replay has such a function too: what both do stands in KeyWords::key, and they differ in all that they print.
 fn answer<K: Kind>(rt: &HostRuntime, asked: &KeyWords) -> io::Result<ExitCode> {
     match asked.key::<K>() {
         Ok(key) => {

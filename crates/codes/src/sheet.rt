@@ -19,7 +19,8 @@ fn pair_sheet<P: Pair>(heap: Global, kind: KindName, pair: &P) -> Result<String,
     format!(in heap; "span {span}\nenergy {energy}\n{a}\n{b}\n")
 }
 
-// The sheet of a key for the kind K: the codes of the recursion.
+// The sheet of a key for the kind K: the codes of the recursion. The name says how entries are printed,
+// and the contract holds for each name with each kind, so the two are no one parameter.
 pub fn key_sheet<K: Kind>(heap: Global, kind: KindName, key: &Key) -> Result<String, AllocError>
     ensures { IfOk result (λ s. string_bytes s ≡ key_sheet kind K.Kind key.now) }
 {

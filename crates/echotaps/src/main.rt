@@ -17,7 +17,7 @@ fn read_input(rt: &HostRuntime) -> io::Result<Vec<u8>> {
 
 fn run(rt: &HostRuntime) -> io::Result<ExitCode> {
     let input = read_input(rt)?;
-    // the longest report has 256 taps of 4 bytes
+    // the longest report has 256 taps of 4 bytes; the crates of files have no heap, so it goes into an array
     let mut out = [0; 1030];
     match report_input(input.as_slice(), &mut out) {
         Ok(length) => {

@@ -21,6 +21,7 @@ pub fn number_up_to(digits: &[u8], most: usize) -> Option<usize>
     if digits.is_empty() {
         return None;
     }
+    // a for and no try_fold: with that, neither clause was found
     let mut n = 0;
     for byte in digits {
         n = with_digit(n, *byte, most)?;

@@ -19,7 +19,7 @@ use std::io;
 use std::process::ExitCode;
 
 // Gives the calls to a sounder over the key that is asked for, filled for the kind K, and prints the answers
-// as one text, or why the key is refused.
+// as one text, or why the key is refused. codes has such a function too: what both do stands in KeyWords::key.
 fn answer<K: Kind>(rt: &HostRuntime, asked: &KeyWords, script: &str) -> Result<ExitCode, Stop> {
     let heap = rt.alloc();
     match asked.key::<K>() {

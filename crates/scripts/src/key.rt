@@ -25,6 +25,7 @@ fn stages_of<W: AsStr>(heap: Global, words: &[W]) -> Result<Option<Vec<KeyStage>
 {
     let mut stages = Vec::new(heap);
     for word in words {
+        // no `?`: that a word is no stage is no error of memory
         let Some(one) = stage(word.as_str()) else {
             return Ok(None);
         };

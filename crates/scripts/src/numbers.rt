@@ -22,6 +22,7 @@ fn unsigned_word(digits: &[u8]) -> Option<i64>
 }
 
 // The number of decimal digits that have a minus sign in front, absent if no i64 holds it.
+// It differs from the one above by a sign; one function of the sign would be no shorter.
 fn minus_word(digits: &[u8]) -> Option<i64>
     ensures { result ≡ and_then (index_of digits.now) negative }
 {
