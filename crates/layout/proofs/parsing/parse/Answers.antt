@@ -1,16 +1,8 @@
-use Rattle.std.proofs.Common.{◌∙◌, arith, rules}
-use Rattle.std.proofs.lemmas.List.{length-take}
+use Rattle.std.proofs.Common.{◌∙◌, arith}
 use Rattle.std.proofs.lemmas.Result.{err_from_is_err_and}
-use Rattle.layout.proofs.Orders.{answers_some, answers_none}
-use Rattle.layout.proofs.FileTests.{stops_at_count, stops_at_fields, key_decides, plan_same, room_same, records_same, size_same}
+use Rattle.layout.proofs.Orders.{answers_none}
+use Rattle.layout.proofs.FileTests.{stops_at_fields, key_decides, plan_same, room_same, records_same, size_same}
 use Rattle.layout.proofs.parsing.parse.Goals as goal
-
-pub returns-in_err-check_count : goal.returns-in_err-check_count
-returns-in_err-check_count c =
-    let h = c.in_ok-head.ensures in
-    let p = err_from_is_err_and c.from_residual-in_err-check_count.result c.from_residual-in_err-check_count.ensures.1 in
-    let b = answers_some _ tt _ c.in_err-check_count.ensures in
-    rw (p.1, p.2) (stops_at_count c.args.file.now h.0 c.in_ok-head.head h.1 _ b)
 
 pub returns-in_err-fields : goal.returns-in_err-fields
 returns-in_err-fields c =
@@ -18,9 +10,6 @@ returns-in_err-fields c =
     let p = err_from_is_err_and c.from_residual-in_err-fields.result c.from_residual-in_err-fields.ensures.1 in
     let b = answers_none _ tt tt c.in_ok-check_count.ensures in
     rw (p.1, p.2) (stops_at_fields c.args.file.now h.0 c.in_ok-head.head h.1 b _ c.in_err-fields.ensures)
-
-pub key_for-requires : goal.key_for-requires
-key_for-requires c = search (rules, length-take)
 
 pub returns-in_err-key : goal.returns-in_err-key
 returns-in_err-key c =
