@@ -1,6 +1,5 @@
 -- What is answered, and what the buffer then holds, by what the tests come to.
-use Rattle.std.proofs.Common.{◌≡◌, ℕ, ◌-◌, ◌≤◌, not, leb, List, length, take, ℤ, Some, Err, Option, Result, sym, ap, ◌∙◌, subst, arith}
-use native.Mathlib.Nat.{sub-zero}
+use Rattle.std.proofs.Common.{◌≡◌, ℕ, ◌≤◌, not, leb, List, length, ℤ, Some, Err, Option, Result, sym, ap, ◌∙◌, subst, arith}
 use Rattle.std.proofs.lemmas.List.FromFn.{length-map-range_with_len}
 use Rattle.std.proofs.lemmas.Bool.{le-leb, le-ltb, and_from, cond-false}
 use Rattle.kinds.specs.Kinds.{KindModel}
@@ -20,10 +19,6 @@ module _ (o : Option FileRefusal) where
   module _ (report d : List ℕ) where
     pub keeps : (e : FileRefusal) → o ≡ Some e → d ≡ buffer_after o report d
     keeps e h = sym (ap (λ p. buffer_after p report d) h)
-
--- the part of the gathered taps that counts
-pub taps_part : (room : ℕ) (all ts : List (ℤ × ℤ)) → take room all ≡ ts → take (room - 0) all ≡ ts
-taps_part room all ts e = ap (λ n. take n all) (sub-zero room) ∙ e
 
 pub taps_count : {S : Type 0} (k : KindModel S) (c : Codes S) (kind : KindName) (room : ℕ) (records : List ℕ) → length (taps k c kind room records) ≡ room
 taps_count k c kind room records = length-map-range_with_len (λ i. words_in (answer_after k c (sounded k c kind room records) (Tap i))) 0 room

@@ -9,7 +9,6 @@ use Rattle.calls.specs.declared.call.Call.{Call}
 use Rattle.calls.specs.declared.call.Call.TheVariants.{Open, Sample, Turn, Close}
 use Rattle.calls.specs.declared.call.Answer.{Answer}
 use Rattle.calls.specs.declared.call.Answer.TheVariants.{Done, Words, Refused}
-use Rattle.calls.specs.Phases.{may_sample}
 use Rattle.calls.specs.declared.refusal.Refusal.{Refusal}
 use Rattle.calls.specs.declared.refusal.Refusal.TheVariants.{RoomLength}
 use Rattle.calls.specs.Answers.{accepted, require, answer_to, sample_answer, full}
@@ -91,9 +90,6 @@ module _ {S : Type 0} (k : KindModel S) where
 
   close_says : (t : State S) → t.phase ≡ SecondRecord → t.count ≡ full k t.codes t.room → says k Close t ≡ Done
   close_says t p n = (λ j. answer_to k t.codes (p j) t.room (n j) t.sums Close) ∙ cond-true _ _ _ (eq-eqb (full k t.codes t.room) (full k t.codes t.room) refl)
-
-  pub begun_ready : (n : ℕ) (s : State S) → Begun k n s → Ready k n s
-  begun_ready n s B = record { phase_takes = ap may_sample B.phase_first; none_yet = B.none_yet; place = (let e = B.full_at in omega arith) }
 
   -- a first record that was begun in s and is full in t
   module _ (n : ℕ) (s t : State S) (B : Begun k n s) (T : Took n s t) where

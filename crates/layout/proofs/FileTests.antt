@@ -33,9 +33,6 @@ module _ (file : List ℕ) (a : first_refusal (head_tests file) ≡ None) (h : H
   count_same : first_refusal (key_says (count_judged h.kernel h.count)) ≡ first_refusal (count_group file)
   count_same = ap₂ (λ k n. first_refusal (key_says (count_judged k n))) H.kernel_is H.count_is
 
-  pub stops_at_count : (e : FileRefusal) → first_refusal (key_says (count_judged h.kernel h.count)) ≡ Some e → first_refusal (layout_tests file) ≡ Some e
-  stops_at_count e b = past_head ∙ stopped (count_group file) (field_group file ++ key_group file) e (sym count_same ∙ b)
-
   stages_same : stages_in h.rest.now h.count ≡ stages_of file
   stages_same = ap₂ stages_in H.rest_is H.count_is
 

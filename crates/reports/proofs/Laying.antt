@@ -1,7 +1,7 @@
 -- Bytes laid one after another over a buffer.
-use Rattle.std.proofs.Common.{◌≡◌, ℕ, ◌+◌, ◌*◌, ◌<◌, ◌≤◌, List, [], ◌∷◌, ◌++◌, length, get_or, take, drop, ℤ, sym, refl, ap, ◌∙◌, ap₂, append_assoc, add-zero, mul-le-mul_left, mul-zero, mul-suc, arith}
+use Rattle.std.proofs.Common.{◌≡◌, ℕ, ◌+◌, ◌*◌, ◌<◌, ◌≤◌, List, [], ◌∷◌, ◌++◌, length, get_or, take, drop, ℤ, sym, refl, ap, ◌∙◌, ap₂, append_assoc, mul-le-mul_left, mul-zero, mul-suc, arith}
 use Rattle.std.specs.List.{flat_map}
-use Rattle.std.proofs.lemmas.List.{length-append, length-take-le, take-append-drop, take_at, drop_at, drop-drop, take_more, flat_map_more}
+use Rattle.std.proofs.lemmas.List.{length-append, length-take-le, take_at, drop_at, drop-drop, take_more, flat_map_more}
 use Rattle.kinds.specs.declared.kind_name.KindName.{KindName}
 use Rattle.kinds.specs.declared.kind_name.KindName.TheVariants.{Hall, Radio}
 use Rattle.kinds.specs.KindNames.{width}
@@ -17,9 +17,6 @@ laid_laid d n bs cs m h e =
     let front : take m (laid d n bs) ≡ p = ap (take m) is ∙ take_at p rest m lp in
     let back : drop (m + length cs) (laid d n bs) ≡ drop (n + length (bs ++ cs)) d = sym (drop-drop (length cs) m (laid d n bs)) ∙ ap (drop (length cs)) (ap (drop m) is ∙ drop_at p rest m lp) ∙ drop-drop (length cs) (n + length bs) d ∙ ap (λ k. drop k d) (simp length-append (omega arith)) in
     ap₂ (λ (x y : List ℕ). x ++ (cs ++ y)) front back ∙ append_assoc (take n d) bs _ ∙ ap (λ (x : List ℕ). take n d ++ x) (sym (append_assoc bs cs _))
-
-pub laid_none : (d : List ℕ) (n : ℕ) → d ≡ laid d n []
-laid_none d n = sym (ap (λ k. take n d ++ drop k d) (add-zero n) ∙ take-append-drop n d)
 
 pub length_tap : (kind : KindName) (t : ℤ × ℤ) → length (tap_bytes kind t) ≡ width kind
 length_tap Hall t = refl
