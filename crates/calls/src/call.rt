@@ -28,7 +28,7 @@ pub enum Answer {
     Refused(Refusal),
 }
 
-// A call with its answer.
+// A call with its answer. The list that a caller lends to `replay` has a place for each answer, as the library has no heap.
 #[derive(Clone, Copy, PartialEq, Eq, Debug)]
 pub struct Event {
     pub call: Call,

@@ -60,15 +60,14 @@ pub fn report(file: &[u8], out: &mut [u8]) -> Result<usize, FileRefusal>
     // By match: the check has no rule yet for `?` on a struct that holds both a reference and a key.
     match parse(file) {
         Ok(sounding) => {
-            let size = file.len();
-            let file = SoundingFile {
+            let fields = SoundingFile {
                 kind: sounding.kind,
                 room: sounding.room,
                 room_byte: sounding.room_byte,
                 records: sounding.records,
-                size,
+                size: file.len(),
             };
-            report_by_kind(&sounding.key, file, out)
+            report_by_kind(&sounding.key, fields, out)
         }
         Err(refusal) => Err(refusal),
     }

@@ -36,6 +36,7 @@ impl Key {
     }
 
     // Replaces the key whole, for the kind K, or refuses and leaves it as it is.
+    // Kernel and stages are taken as they come, in words or in a file: nothing holds them together before they are judged.
     pub fn fill<K: Kind>(&mut self, kernel: u8, stages: &[KeyStage]) -> Result<(), KeyRefusal>
         ensures answer { result ≡ judged K.Kind.polar.count kernel stages.now }
         ensures key { MatchResult result (λ _. self.new ≡ plan kernel K.Kind.polar.count stages.now) (λ _. self.new ≡ self.old) }

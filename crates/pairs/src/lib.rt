@@ -59,6 +59,7 @@ pub trait Pair {
     }
 
     // Entry k of a code: absent exactly if k is not below the span.
+    // Side and place are two parameters, as in A[k]: a struct of both would be written out at each call.
     fn entry(&self, side: Side, k: usize) -> Option<Self::Sample>
         ensures { result ≡ (if nat_lt k (span self.now) then Some (code self.now side k) else None) };
 
