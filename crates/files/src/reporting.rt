@@ -42,6 +42,7 @@ fn report_as<K: Kind>(
 fn report_by_kind(key: &Key, file: SoundingFile<'_>, out: &mut [u8]) -> Result<usize, FileRefusal>
     ensures { Reports (tests_for key.now file.entry.room file.entry.records.now file.entry.kind file.entry.room_byte file.entry.size (length out.old)) (report_for key.now file.entry.room file.entry.records.now file.entry.kind) (LawsFor key.now file.entry.room file.entry.records.now file.entry.kind) result out.old out.new }
 {
+    // each kind is a type of its own, so a name picks one of two calls
     match file.kind {
         KindName::Hall => report_as::<Hall>(key, file, out),
         KindName::Radio => report_as::<Radio>(key, file, out),

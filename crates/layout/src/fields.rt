@@ -32,6 +32,7 @@ pub(crate) fn take_fields(bytes: &[u8], count: usize) -> Result<Fields<'_>, File
 {
     let mut stages = ArrayVec::new();
     let mut rest = bytes;
+    // by number: a missing byte is told by its place
     for i in 0..count {
         let [delay, more @ ..] = rest else {
             return Err(FileRefusal::Length { byte: 6 + 2 * i });

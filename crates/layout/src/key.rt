@@ -53,6 +53,7 @@ fn fill_for(
     ensures answer { result ≡ judged (roots kind) kernel stages.now }
     ensures key { MatchResult result (λ _. key.new ≡ plan kernel (roots kind) stages.now) (λ _. key.new ≡ key.old) }
 {
+    // each kind is a type of its own, so a name picks one of two calls
     match kind {
         KindName::Hall => key.fill::<Hall>(kernel, stages),
         KindName::Radio => key.fill::<Radio>(kernel, stages),

@@ -61,6 +61,7 @@ fn head_of(kind: KindName, room: u16) -> [u8; 6]
     requires { room ≤ 256 }
     ensures { result ≡ report_head kind room }
 {
+    // at most 1,027: the cast keeps it, and try_from would add an error that never comes
     let follows = 3 + kind.width() * usize::from(room);
     let [length_high, length_low] = (follows as u16).to_be_bytes();
     let [room_high, room_low] = room.to_be_bytes();
@@ -80,7 +81,7 @@ fn write(out: &mut [u8], kind: KindName, taps: &[(i64, i64)]) -> usize
     report_length(kind, room)
 }
 
-// The same, or the refusal of the first tap that a report can't hold.
+// The same, or the refusal of the first tap that a report can't hold. `within` stands again at each step: the caller cuts the buffer there.
 fn write_checked(
     out: &mut [u8],
     kind: KindName,

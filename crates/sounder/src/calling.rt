@@ -230,7 +230,7 @@ impl<P: Pair> Sounder<P> {
 }
 
 impl<P: Pair> Sounder<P> {
-    // Any of the calls.
+    // Any of the calls. A call of a list is a value that is read, kept and printed, so a match and no closure picks the method.
     pub fn answer(&mut self, call: Call) -> Answer
         ensures { Does P.Sample.Kind P.Pair call self.old self.new result }
     {

@@ -2,6 +2,7 @@ ghost use Rattle.std.specs.Prelude.{◌≡◌, ◌+◌, ◌*◌, ◌/◌, ◌≤
 ghost use Rattle.sums.specs.Rooms.{rounded};
 
 // m divided by e, rounded to the nearest, halves up.
+// Each divisor here is an energy, of which the laws of a pair say that it is at least 1: no NonZeroU32 has to be made of it.
 fn nearest(m: u64, e: u32) -> u128
     requires { 1 ≤ e }
     ensures { result ≡ (2 * m + e) / (2 * e) }

@@ -88,8 +88,8 @@ fn check_delay<P: Pair>(rt: &impl Abort, pair: &mut P, delay: u16) {
 fn long_delays(rt: HostRuntime) {
     for delay in [1, 127, 128] {
         let mut pair: Stage<Kernel<Hall>> = unit_stage(delay, 0);
-        assert_eq!(rt; pair.size(), (1 + delay as usize, 4));
-        check_delay(&rt, &mut pair, delay as u16);
+        assert_eq!(rt; pair.size(), (1 + usize::from(delay), 4));
+        check_delay(&rt, &mut pair, u16::from(delay));
     }
 }
 
@@ -120,7 +120,7 @@ pub(crate) fn check_correlation<P: Pair + Drop>(rt: &impl Abort, mut one: P, mut
         let b = other.entry_or_zero(Side::B, t);
         let (p, _) = one.push(a);
         let (_, q) = other.push(b);
-        let wanted = if t + 1 == span { energy as i64 } else { 0 };
+        let wanted = if t + 1 == span { i64::from(energy) } else { 0 };
         assert_eq!(rt; p.sum(q).words(), (wanted, 0));
     }
 }
