@@ -81,6 +81,7 @@ pub(crate) fn sound<P: Pair + Drop>(
     if bytes.len() != 2 * (kind.width() * count) {
         return Err(FileRefusal::Length { byte: at + 2 });
     }
+    // the cast keeps a room length that was opened: at most 256
     if space < report_length(kind, room as u16) {
         return Err(FileRefusal::Buffer { byte: size });
     }

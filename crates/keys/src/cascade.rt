@@ -24,6 +24,7 @@ impl Key {
         }
     }
 
+    // Both clauses are those of the constructor that is picked.
     fn kernel_for<K: Kind>(&self) -> Kernel<K>
         ensures codes { kernel_codes K.Kind result ≡ kernel_of K.Kind.ring self.now.kernel }
         ensures lists { kernel_pending K.Kind result ≡ silent K.Kind.ring }

@@ -35,5 +35,6 @@ pub fn number_up_to(digits: &[u8], most: usize) -> Option<usize>
 pub fn number(word: &str) -> Option<u8>
     ensures { result ≡ number_of word.now }
 {
+    // a number up to 255, which the cast keeps: try_from would add an error that never comes
     Some(number_up_to(word.as_bytes(), 255)? as u8)
 }

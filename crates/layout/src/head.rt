@@ -10,6 +10,7 @@ use kinds::KindName;
 #[derive(Clone, Copy)]
 pub(crate) struct Head<'a> {
     pub kind: KindName,
+    // as it stands in the file: the key judges it
     pub kernel: u8,
     pub count: usize,
     // what follows the number of stages

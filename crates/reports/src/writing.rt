@@ -56,7 +56,7 @@ fn lay_taps(out: &mut [u8], from: usize, kind: KindName, taps: &[(i64, i64)])
     }
 }
 
-// What stands before the taps.
+// What stands before the taps. The room length is bounded anew here: sounder, files and reports have no type of it in common.
 fn head_of(kind: KindName, room: u16) -> [u8; 6]
     requires { room ≤ 256 }
     ensures { result ≡ report_head kind room }
@@ -75,7 +75,7 @@ fn write(out: &mut [u8], kind: KindName, taps: &[(i64, i64)]) -> usize
     ensures after { out.new ≡ buffer_after None (report_bytes kind (length taps.now) taps.now) out.old }
     ensures within { result ≤ length out.old }
 {
-    let room = taps.len() as u16;
+    let room = taps.len() as u16; // at most 256, as is proved
     lay(out, 0, &head_of(kind, room));
     lay_taps(out, 6, kind, taps);
     report_length(kind, room)
@@ -99,6 +99,7 @@ fn write_checked(
 
 // Writes the report of a room's taps at the front of the buffer, whose rest is kept, and answers its length;
 // or answers the first refusal that comes, and leaves the buffer as it is. `size` is the length of the file that is answered.
+// Kind and taps are two parameters: they come from two places, and each step reads both anew.
 pub fn write_report(
     out: &mut [u8],
     kind: KindName,
@@ -115,6 +116,7 @@ pub fn write_report(
             byte: size,
         });
     }
+    // the cast keeps a length of at most 256
     if out.len() < report_length(kind, taps.len() as u16) {
         return Err(FileRefusal::Buffer { byte: size });
     }

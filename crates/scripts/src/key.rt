@@ -15,6 +15,7 @@ use std::convert::AsStr;
 #[derive(Drop)]
 pub struct KeyWords {
     pub kind: KindName,
+    // as it was written: the key judges it
     pub kernel: u8,
     pub stages: Vec<KeyStage>,
 }

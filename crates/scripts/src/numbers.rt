@@ -26,6 +26,7 @@ fn unsigned_word(digits: &[u8]) -> Option<i64>
 fn minus_word(digits: &[u8]) -> Option<i64>
     ensures { result ≡ and_then (index_of digits.now) negative }
 {
+    // a cast, since i128 has no From<usize>
     i64::try_from(-(index(digits)? as i128)).ok()
 }
 
