@@ -10,6 +10,7 @@ pub enum Phase {
     Complete,
 }
 
+// Five questions, one for each row of the table of phases, and no function of the phases that allow a call.
 impl Phase {
     // The place of a refusal. By name, since a From for u8 would not say which number it is.
     pub fn number(self) -> u8

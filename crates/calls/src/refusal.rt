@@ -62,7 +62,7 @@ impl Refused for Refusal {
     }
 }
 
-// As a text: refused N layer M place P.
+// As a text: refused N layer M place P. No impl can give a Display to all types of a trait, so each refusal has its own.
 impl fmt::Display for Refusal {
     ghost use Rattle.calls.specs.Refusals.{refusal_text};
 

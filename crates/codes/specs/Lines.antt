@@ -1,14 +1,10 @@
 -- The bytes of the line of a code.
-use Rattle.std.specs.Prelude.{ℕ, zero, suc, List, [], ◌++◌, codes}
+use Rattle.std.specs.Prelude.{ℕ, zero, suc, List, [], ◌++◌}
 use Rattle.kinds.specs.Samples.{WordOps}
 use Rattle.sums.specs.declared.Side.{Side}
-use Rattle.sums.specs.declared.Side.TheVariants.{A, B}
+use Rattle.sums.specs.Sides.{name_of}
 use Rattle.kinds.specs.declared.kind_name.KindName.{KindName}
 use Rattle.codes.specs.Texts.{entry_of}
-
-abbrev pub name_of : Side → List ℕ
-name_of A = codes "A"
-name_of B = codes "B"
 
 -- a sample by its words
 abbrev pub entry_in : {S : Type 0} → KindName → WordOps S → S → List ℕ

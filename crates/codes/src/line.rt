@@ -1,22 +1,12 @@
 // The line of a code: its name and its entries.
 ghost use Rattle.std.specs.Prelude.{◌≡◌, ◌++◌, IfOk, string_bytes, OnOk};
-ghost use Rattle.codes.specs.Lines.{name_of, entry_in, line_of};
+ghost use Rattle.codes.specs.Lines.{entry_in, line_of};
 
 use kinds::{Kind, KindName};
 use pairs::Pair;
 use std::alloc::{AllocError, Global};
 use std::fmt::Write;
 use sums::Side;
-
-// A match and no Display, which only the crate that has the type can give it.
-fn side_name(side: Side) -> &'static str
-    ensures { result.now ≡ name_of side }
-{
-    match side {
-        Side::A => "A",
-        Side::B => "B",
-    }
-}
 
 // Puts an entry behind the line, after a blank. In the hall kind the second word is always 0 and left out.
 fn push_entry<K: Kind>(line: &mut String, kind: KindName, entry: K) -> Result<(), AllocError>
@@ -38,7 +28,7 @@ pub fn code_line<P: Pair>(
 ) -> Result<String, AllocError>
     ensures { IfOk result (λ s. string_bytes s ≡ line_of kind P.Sample.Kind.encoding side (P.Pair.code pair.now side) (P.Pair.span pair.now)) }
 {
-    let mut line = String::from_str(heap, side_name(side))?;
+    let mut line = side.to_string(heap)?;
     // a pair has no list of its entries: it computes each by its place
     for k in 0..pair.span() {
         push_entry(&mut line, kind, pair.entry_or_zero(side, k))?;

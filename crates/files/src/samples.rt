@@ -5,7 +5,8 @@ ghost use Rattle.files.specs.Samples.{number_in, sample_in};
 
 use kinds::KindName;
 
-// The bytes of a record of `count` samples, which begins at byte `from` of the file.
+// The bytes of a record of `count` samples, which begins at byte `from` of the file. More may follow behind it, as the
+// second record does behind the first: the definitions read samples by their places.
 #[derive(Clone, Copy)]
 pub(crate) struct Record<'a> {
     pub kind: KindName,

@@ -20,7 +20,8 @@ use pairs::Pair;
 use reports::report_length;
 use sounder::Sounder;
 
-// A sounding file that was read: what it says beside its key, and its length.
+// A sounding file that was read: what it says beside its key, and its length. It holds the fields and no `Sounding`:
+// the check has no rule yet for a struct that is passed on with both a reference and a key in it.
 #[derive(Clone, Copy)]
 pub(crate) struct SoundingFile<'a> {
     pub kind: KindName,

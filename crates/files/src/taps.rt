@@ -22,7 +22,8 @@ pub(crate) fn gather<P: Pair>(sounder: &Sounder<P>, room: usize) -> ArrayVec<(i6
     ensures { result.items ≡ map (λ i. words_in (says P.Sample.Kind (Call.Tap i) (state_of P.Sample.Kind P.Pair sounder.now))) (range_with_len 0 room) }
 {
     let mut taps = ArrayVec::new();
-    // by number: a sounder answers each tap by its index, and holds no list of them
+    // By number: a sounder answers each tap by its index, and holds no list of them. `push` and no `collect`,
+    // which would add an error that never comes.
     for index in 0..room {
         taps.push(tap_words(sounder, index));
     }

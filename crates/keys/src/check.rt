@@ -37,6 +37,7 @@ fn are_doublings(least: u16, stages: &[KeyStage]) -> bool
     ensures value { result ≡ is_set least (delays_of stages.now) }
     ensures order { 1 ≤ least → Decides result (InSomeOrder least (delays_of stages.now)) }
 {
+    // By hand: that a product fits is known from the one before, which was found among the delays; no chain says so.
     let mut wanted = least;
     for _stage in stages {
         if !has_delay(stages, wanted) {

@@ -12,6 +12,7 @@ pub(crate) enum KernelName {
 }
 
 impl KernelName {
+    // A name and no From, which would not say which number it is.
     pub(crate) fn number(self) -> u8
         ensures { result ≡ number_of self }
     {

@@ -7,6 +7,7 @@ use std::marker::Model;
 #[derive(Clone, Copy, PartialEq, Eq, Debug)]
 pub struct Key {
     pub(crate) kernel: KernelName,
+    // no kind but the number of its roots: a key serves each kind that has as many
     pub(crate) roots: u8,
     pub(crate) stages: Stages,
 }

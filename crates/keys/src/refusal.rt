@@ -48,7 +48,7 @@ impl Refused for KeyRefusal {
     }
 }
 
-// As a text: refused N layer M place P.
+// As a text: refused N layer M place P. No impl can give a Display to all types of a trait, so each refusal has its own.
 impl fmt::Display for KeyRefusal {
     ghost use Rattle.keys.specs.Refusals.{refusal_text};
 

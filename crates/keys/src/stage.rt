@@ -6,6 +6,6 @@ pub struct KeyStage {
 }
 
 impl KeyStage {
-    // A stage that rests.
+    // A stage that rests: a cascade has seven stages, and those that a key does not use are of this kind.
     pub(crate) const AT_REST: KeyStage = KeyStage { delay: 0, code: 0 };
 }

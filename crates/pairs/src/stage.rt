@@ -56,7 +56,7 @@ impl<P: Pair> Stage<P> {
         }
     }
 
-    // A new stage keeps zeros. Delay and code are two numbers: a struct of both would be taken apart at once.
+    // A new stage keeps zeros. Delay and code are two numbers: `Stage::new(below, 1, 0)` is plainer than with a struct written out.
     pub fn new(below: P, delay: u8, code: u8) -> Self
         ensures codes { codes_in P.Sample.Kind (codes_of P.Pair) result ≡ stage_codes P.Sample.Kind.ring (weight_of P.Sample.Kind.polar delay code (codes_of P.Pair below)) delay (codes_of P.Pair below) }
         ensures lists { pending_in P.Sample.Kind (codes_of P.Pair) P.Pair.pending result ≡ stage_pending P.Sample.Kind.ring (weight_of P.Sample.Kind.polar delay code (codes_of P.Pair below)) delay (λ j. P.Sample.Kind.ring.zero) (P.Pair.pending below) }

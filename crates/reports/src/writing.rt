@@ -51,12 +51,13 @@ fn lay_taps(out: &mut [u8], from: usize, kind: KindName, taps: &[(i64, i64)])
     requires { from + width kind * length taps.now ≤ length out.old }
     ensures { out.new ≡ laid out.old from (flat_map (tap_bytes kind) taps.now) }
 {
+    // by place: of a buffer that chunks_exact_mut lent out, no clause says what it holds
     for (i, tap) in taps.iter().enumerate() {
         lay_tap(out, from + kind.width() * i, kind, *tap);
     }
 }
 
-// What stands before the taps. The room length is bounded anew here: sounder, files and reports have no type of it in common.
+// What stands before the taps. A type of a room length would be made and taken apart at once, here as in sounder and files.
 fn head_of(kind: KindName, room: u16) -> [u8; 6]
     requires { room ≤ 256 }
     ensures { result ≡ report_head kind room }
@@ -99,7 +100,7 @@ fn write_checked(
 
 // Writes the report of a room's taps at the front of the buffer, whose rest is kept, and answers its length;
 // or answers the first refusal that comes, and leaves the buffer as it is. `size` is the length of the file that is answered.
-// Kind and taps are two parameters: they come from two places, and each step reads both anew.
+// Kind and taps are two parameters: a struct of both would be made for this call and taken apart in it.
 pub fn write_report(
     out: &mut [u8],
     kind: KindName,

@@ -44,7 +44,7 @@ pub fn answered(heap: Global, line: &str, answer: &str) -> Result<String, AllocE
     format!(in heap; "{line} = {answer}\n")
 }
 
-// Why a key is refused.
+// Why a key is refused. Like the next, a public name for a text that a definition states: what both share is `to_string`.
 pub fn key_refusal_text(heap: Global, refusal: KeyRefusal) -> Result<String, AllocError>
     ensures { IfOk result (λ s. string_bytes s ≡ refusal_text refusal) }
 {

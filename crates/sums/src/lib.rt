@@ -2,6 +2,10 @@
 // Definitions (specs/) and lemmas (proofs/) that pairs and sounders share.
 #![tactic(auto)]
 
+ghost use Rattle.std.specs.Prelude.{Some};
+
+use std::fmt;
+
 // Which of the two codes of a pair.
 #[derive(Clone, Copy, PartialEq, Eq, Debug)]
 pub enum Side {
@@ -27,5 +31,19 @@ impl TryFrom<u8> for Side {
             1 => Ok(Side::B),
             _ => Err(NoSide(number)),
         }
+    }
+}
+
+// As a text: A or B.
+impl fmt::Display for Side {
+    ghost use Rattle.sums.specs.Sides.{name_of};
+
+    ghost output = { λ side. Some (name_of side) };
+
+    fn fmt<W: fmt::Write>(&self, f: &mut fmt::Formatter<W>) -> fmt::Result {
+        f.write_str(match self {
+            Side::A => "A",
+            Side::B => "B",
+        })
     }
 }

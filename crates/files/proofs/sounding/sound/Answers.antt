@@ -28,17 +28,6 @@ use Rattle.files.proofs.sounding.sound.Goals as goal
 laws : (g : given.Over) → KindLaws g.P.Sample.Kind
 laws g = let met = g.met.P.Sample.Kind in record { algebra = met.algebra; conjugation = met.conjugation; wordwise = met.wordwise; encodes = met.encodes; unity = met.unity; magnitudes = met.magnitudes }
 
-pub returns-in_err-at_byte : goal.returns-in_err-at_byte
-returns-in_err-at_byte g c =
-    let k = g.P.Sample.Kind in
-    let s = state_of k g.P.Pair c.new-sounder.result in
-    let d = codes_of g.P.Pair c.args.pair in
-    let p = err_from_is_err_and c.from_residual.result c.from_residual.ensures.1 in
-    let e = answers_some _ tt c.in_err-at_byte.field-0.0 c.in_err-at_byte.ensures in
-    let idle : s.phase ≡ Idle = ap (λ (t : State g.row.P-Sample.Denot). t.phase) c.new-sounder.ensures.value in
-    let said = c.open.ensures.value ∙ open_says k s d c.args.file.room idle in
-    rw (p.1, p.2) (stops_at_open k d c.args.file.kind c.args.file.room c.args.file.records.now c.args.file.room_byte c.args.file.size c.args.space c.in_err-at_byte.field-0.0 (ap (λ (r : Answer). first_refusal (sounder_says c.args.file.room_byte r)) (sym said) ∙ e))
-
 -- what holds once the sounder is opened: s is its state when it was new, v after the call
 record Opened (g : given.Over) (d : Codes g.row.P-Sample.Denot) (span room at : ℕ) (s v : State g.row.P-Sample.Denot) : Type 0 where
   least : 1 ≤ room
@@ -64,15 +53,6 @@ opened g d span room at s v r codes idle size said after none =
       begun = subst₂ (Begun k) (ap (λ (e : Codes g.row.P-Sample.Denot). full k e room) codes ∙ sym n) (sym after) (opened_begun k s room idle ok);
       says_open = ap (λ (q : Answer). first_refusal (sounder_says at q)) (sym (said ∙ open_says k s d room idle)) ∙ none;
     }
-
-pub take_records-requires : goal.take_records-requires
-take_records-requires g c =
-    let k = g.P.Sample.Kind in
-    let s = state_of k g.P.Pair c.new-sounder.result in
-    let v = state_of k g.P.Pair c.open.new.self in
-    let value = c.new-sounder.ensures.value in
-    let O = opened g (codes_of g.P.Pair c.args.pair) c.span-span.result c.args.file.room c.args.file.room_byte s v (done c.open.result) (ap (λ (t : State g.row.P-Sample.Denot). t.codes) value) (ap (λ (t : State g.row.P-Sample.Denot). t.phase) value) c.span-span.ensures.value c.open.ensures.value c.open.ensures.after (answers_none _ tt tt c.in_ok-at_byte.ensures) in
-    (O.begun, (c.if-bytes-width.false ∙ ap (λ w. 2 * (w * (c.span-span.result + c.args.file.room - 1))) c.width.ensures, omega arith))
 
 pub returns-in_err-take_records : goal.returns-in_err-take_records
 returns-in_err-take_records g c =
