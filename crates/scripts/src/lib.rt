@@ -1,4 +1,4 @@
-// The text of a script of calls: what the words of a line mean, and how answers are written.
+// The words of a key and of a script of calls: what the words of a line mean, and how answers are written.
 #![tactic(auto)]
 
 mod key;
