@@ -16,7 +16,8 @@ fn push_word(text: &mut String, word: &str) -> Result<(), AllocError>
     text.push_str(word)
 }
 
-// A word and those that follow it, each after a blank: std has no join of words.
+// A word and those that follow it, each after a blank. std has no join of words; with that of itertools, which speaks of
+// runs of an iterator, the clause of `line_text` stayed open.
 fn joined(heap: Global, first: &str, rest: &[&str]) -> Result<String, AllocError>
     ensures { IfOk result (λ s. string_bytes s ≡ first.now ++ behind (all_now rest.now)) }
 {
