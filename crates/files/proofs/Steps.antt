@@ -14,7 +14,6 @@ use Rattle.calls.specs.declared.refusal.Refusal.TheVariants.{RoomLength}
 use Rattle.calls.specs.Answers.{accepted, require, answer_to, sample_answer, full}
 use Rattle.calls.specs.Runs.{new, answer_after}
 use Rattle.sounder.specs.States.{State, says, next, moved, took_if}
-use Rattle.layout.specs.declared.refusal.FileRefusal.{FileRefusal}
 use Rattle.kinds.specs.declared.kind_name.KindName.{KindName}
 use Rattle.kinds.specs.KindNames.{width}
 use Rattle.layout.specs.Tests.{first_refusal}
@@ -27,10 +26,6 @@ pub none_refused : (byte : ℕ) (r : Answer) → first_refusal (sounder_says byt
 none_refused byte Done h = refl
 none_refused byte (Words a b) h = refl
 none_refused byte (Refused e) h = let z : ◌≡◌ {A = ℕ} 0 1 = cc in absurd (omega arith)
-
--- an accepted answer refuses nothing
-pub not_refused : (byte : ℕ) (r : Answer) (e : FileRefusal) → r ≡ Done → first_refusal (sounder_says byte r) ≡ Some e → ⊥
-not_refused byte r e d h = let n : None ≡ Some e = sym (ap (λ q. first_refusal (sounder_says byte q)) d) ∙ h in let z : ◌≡◌ {A = ℕ} 0 1 = cc in omega arith
 
 -- a fact that holds anyhow
 pub made_any : {X Y P : Type 0} (r : Result X Y) → P → IfOk r (λ _. P)
@@ -101,9 +96,6 @@ module _ {S : Type 0} (k : KindModel S) where
 
     turned : next k Turn t ≡ moved k Turn t
     turned = next_is Turn t (ap accepted turns)
-
-    pub turned_ready : Ready k n (next k Turn t)
-    turned_ready = subst (Ready k n) (sym turned) (record { phase_takes = refl; none_yet = refl; place = (let e = same_full in omega arith) })
 
     pub turned_codes : (next k Turn t).codes ≡ s.codes
     turned_codes = ap (λ (u : State S). u.codes) turned ∙ T.codes_stay

@@ -21,7 +21,7 @@ use Rattle.files.specs.Order.{sounder_says}
 use Rattle.files.specs.States.{led, Begun}
 use Rattle.files.proofs.Steps.{none_refused, open_says, room_bounds, opened_begun, opened_codes, opened_room}
 use Rattle.files.proofs.Runs.{taps_are, taps_answered, taps_near}
-use Rattle.files.proofs.RecordTests.{samples_by, stops_at_open, samples_decide}
+use Rattle.files.proofs.RecordTests.{samples_by, samples_decide}
 use Rattle.files.proofs.sounding.sound.Given as given
 use Rattle.files.proofs.sounding.sound.Goals as goal
 

@@ -12,8 +12,8 @@ use Rattle.layout.proofs.Orders.{passed, stopped, answers_some, answers_none}
 use Rattle.files.specs.Samples.{samples_in}
 use Rattle.files.specs.Order.{sounder_says, sample_tests}
 use Rattle.files.specs.Soundings.{sample_calls}
-use Rattle.files.specs.States.{led, Ready, Took}
-use Rattle.files.proofs.Steps.{not_refused, made_any, turns, turned_ready, turned_codes, closes, closed_phase, closed_room, led_records}
+use Rattle.files.specs.States.{led, Took}
+use Rattle.files.proofs.Steps.{made_any, turned_codes, closes, closed_phase, closed_room, led_records}
 use Rattle.files.proofs.sounding.take_records.Given as given
 use Rattle.files.proofs.sounding.take_records.Goals as goal
 
@@ -41,21 +41,6 @@ returns-in_err-feed g c =
     let two = second_tests g codes c.args.first.kind c.args.first.bytes.now c.args.first.count c.args.first.from in
     let e = answers_some (first_refusal one) tt c.in_err-feed.field-0.0 c.in_err-feed.ensures.value in
     rw (p.1, p.2) (record { value = sym (ap (λ o. unless o tt) (stopped one two c.in_err-feed.field-0.0 e)); state = tt; ended = tt })
-
-pub returns-in_err-at_byte : goal.returns-in_err-at_byte
-returns-in_err-at_byte g c =
-    let k = g.P.Sample.Kind in
-    let s = state_of k g.P.Pair c.args.sounder.now in
-    let t = state_of k g.P.Pair c.feed.new.sounder in
-    let d : done c.turn.result ≡ Done = c.turn.ensures.value ∙ turns k c.args.first.count s t c.requires.0 c.in_ok-feed.ensures.taken in
-    absurd (not_refused _ _ _ d (answers_some _ tt _ c.in_err-at_byte.ensures))
-
-pub feed-requires-2 : goal.feed-requires-2
-feed-requires-2 g c =
-    let k = g.P.Sample.Kind in
-    let s = state_of k g.P.Pair c.args.sounder.now in
-    let t = state_of k g.P.Pair c.feed.new.sounder in
-    subst (Ready k c.args.first.count) (sym c.turn.ensures.after) (turned_ready k c.args.first.count s t c.requires.0 c.in_ok-feed.ensures.taken)
 
 pub returns-in_err-feed-2 : goal.returns-in_err-feed-2
 returns-in_err-feed-2 g c =
