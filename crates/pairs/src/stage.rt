@@ -1,9 +1,8 @@
-ghost use Rattle.std.specs.Prelude.{◌≡◌, refl};
+ghost use Rattle.std.specs.Prelude.{◌≡◌, ℕ, refl};
 ghost use Rattle.sums.specs.Sums.{late};
 ghost use Rattle.golay.specs.Stages.{weight_of, stage_codes, stage_pending};
 ghost use Rattle.golay.proofs.StageLaws.{stage_laws};
-ghost use Rattle.pairs.specs.Pairs.{codes_of};
-ghost use Rattle.pairs.specs.Stages.{weight_in, codes_in, pending_in};
+ghost use Rattle.pairs.specs.Pairs.{codes_of, size_of};
 ghost use Rattle.tables.specs.Tables.{words, zeros};
 
 use crate::Pair;
@@ -15,11 +14,16 @@ use tables::DelayLine;
 // It rests, and means what the pair below means, if its delay is 0 or above 128, if its code is no root's,
 // or if the pair below has an energy above 2^19 or a span above 3,968.
 #[derive(Drop)]
-pub struct Stage<P> {
+pub struct Stage<P: Pair> {
     below: P,
     delay: u8,
     code: u8,
+    // The weight, none where the stage rests, and the size: worked out once, as the codes of the pair below stay.
+    weight: Option<P::Sample>,
+    size: (usize, u32),
     line: DelayLine,
+    ghost weighed: { weight ≡ weight_of P.Sample.Kind.polar delay code (codes_of P.Pair below) },
+    ghost sized: { size ≡ size_of (stage_codes P.Sample.Kind.ring (weight_of P.Sample.Kind.polar delay code (codes_of P.Pair below)) delay (codes_of P.Pair below)) },
 }
 
 // Entry k of a code that begins `delay` places late.
@@ -41,74 +45,83 @@ fn combined<K: Kind>(w: K, oldest: K, q: K) -> (K, K)
     (u.sum(q), u.difference(q))
 }
 
+// The root of a weight code, none where a stage of this delay rests over the pair.
+fn weight_over<P: Pair>(below: &P, delay: u8, code: u8) -> Option<P::Sample>
+    ensures { result ≡ weight_of P.Sample.Kind.polar delay code (codes_of P.Pair below.now) }
+{
+    let (span, energy) = below.size();
+    if (1..=128).contains(&delay) && energy <= 1 << 19 && span <= 3968 {
+        P::Sample::root(code)
+    } else {
+        None
+    }
+}
+
+// The size of a stage of this weight over the pair.
+fn size_over<P: Pair>(below: &P, delay: u8, weight: Option<P::Sample>) -> (usize, u32)
+    requires { (code : ℕ) × (weight ≡ weight_of P.Sample.Kind.polar delay code (codes_of P.Pair below.now)) }
+    ensures { result ≡ size_of (stage_codes P.Sample.Kind.ring weight delay (codes_of P.Pair below.now)) }
+{
+    let (span, energy) = below.size();
+    match weight {
+        None => (span, energy),
+        Some(_) => (span + usize::from(delay), 2 * energy),
+    }
+}
+
 impl<P: Pair> Stage<P> {
+    ghost use Rattle.pairs.specs.Stages.{codes_in, pending_in};
+
     // A stage over a line that keeps zeros.
     fn with_line(below: P, delay: u8, code: u8, line: DelayLine) -> Self
         requires { words line.table ≡ zeros 128 }
-        ensures codes { codes_in P.Sample.Kind (codes_of P.Pair) result ≡ stage_codes P.Sample.Kind.ring (weight_of P.Sample.Kind.polar delay code (codes_of P.Pair below)) delay (codes_of P.Pair below) }
-        ensures lists { pending_in P.Sample.Kind (codes_of P.Pair) P.Pair.pending result ≡ stage_pending P.Sample.Kind.ring (weight_of P.Sample.Kind.polar delay code (codes_of P.Pair below)) delay (λ j. P.Sample.Kind.ring.zero) (P.Pair.pending below) }
+        ensures codes { codes_in P.Sample.Kind P.Pair result ≡ stage_codes P.Sample.Kind.ring (weight_of P.Sample.Kind.polar delay code (codes_of P.Pair below)) delay (codes_of P.Pair below) }
+        ensures lists { pending_in P.Sample.Kind P.Pair result ≡ stage_pending P.Sample.Kind.ring (weight_of P.Sample.Kind.polar delay code (codes_of P.Pair below)) delay (λ j. P.Sample.Kind.ring.zero) (P.Pair.pending below) }
     {
+        let weight = weight_over(&below, delay, code);
+        let size = size_over(&below, delay, weight);
         Stage {
             below,
             delay,
             code,
+            weight,
+            size,
             line,
         }
     }
 
     // A new stage keeps zeros. Delay and code are two numbers: `Stage::new(below, 1, 0)` is plainer than with a struct written out.
     pub fn new(below: P, delay: u8, code: u8) -> Self
-        ensures codes { codes_in P.Sample.Kind (codes_of P.Pair) result ≡ stage_codes P.Sample.Kind.ring (weight_of P.Sample.Kind.polar delay code (codes_of P.Pair below)) delay (codes_of P.Pair below) }
-        ensures lists { pending_in P.Sample.Kind (codes_of P.Pair) P.Pair.pending result ≡ stage_pending P.Sample.Kind.ring (weight_of P.Sample.Kind.polar delay code (codes_of P.Pair below)) delay (λ j. P.Sample.Kind.ring.zero) (P.Pair.pending below) }
+        ensures codes { codes_in P.Sample.Kind P.Pair result ≡ stage_codes P.Sample.Kind.ring (weight_of P.Sample.Kind.polar delay code (codes_of P.Pair below)) delay (codes_of P.Pair below) }
+        ensures lists { pending_in P.Sample.Kind P.Pair result ≡ stage_pending P.Sample.Kind.ring (weight_of P.Sample.Kind.polar delay code (codes_of P.Pair below)) delay (λ j. P.Sample.Kind.ring.zero) (P.Pair.pending below) }
     {
         Stage::with_line(below, delay, code, DelayLine::new())
-    }
-
-    // The weight, none where the stage rests over a pair of this span and energy.
-    fn weight_over(&self, span: usize, energy: u32) -> Option<P::Sample>
-        requires { (span ≡ P.Pair.span self.now.below) × (energy ≡ P.Pair.energy self.now.below) }
-        ensures { result ≡ weight_in P.Sample.Kind (codes_of P.Pair) self.now }
-    {
-        if (1..=128).contains(&self.delay) && energy <= 1 << 19 && span <= 3968 {
-            P::Sample::root(self.code)
-        } else {
-            None
-        }
-    }
-
-    fn weight(&self) -> Option<P::Sample>
-        ensures { result ≡ weight_in P.Sample.Kind (codes_of P.Pair) self.now }
-    {
-        let (span, energy) = self.below.size();
-        self.weight_over(span, energy)
     }
 }
 
 impl<P: Pair> Pair for Stage<P> {
+    ghost use Rattle.pairs.specs.Stages.{codes_in, pending_in};
+
     type Sample = P::Sample;
 
-    ghost span = { λ s. (codes_in P.Sample.Kind (codes_of P.Pair) s).span };
+    ghost span = { λ s. (codes_in P.Sample.Kind P.Pair s).span };
 
-    ghost energy = { λ s. (codes_in P.Sample.Kind (codes_of P.Pair) s).energy };
+    ghost energy = { λ s. (codes_in P.Sample.Kind P.Pair s).energy };
 
-    ghost code = { λ s. (codes_in P.Sample.Kind (codes_of P.Pair) s).entry };
+    ghost code = { λ s. (codes_in P.Sample.Kind P.Pair s).entry };
 
-    ghost counts = { λ s. (codes_in P.Sample.Kind (codes_of P.Pair) s).counts };
+    ghost counts = { λ s. (codes_in P.Sample.Kind P.Pair s).counts };
 
-    ghost pending = { pending_in P.Sample.Kind (codes_of P.Pair) P.Pair.pending };
+    ghost pending = { pending_in P.Sample.Kind P.Pair };
 
     ghost laws = { λ s. stage_laws P.Sample.Kind.algebra P.Sample.Kind.conjugation P.Sample.Kind.unity s.delay s.code _ _ _ (P.Pair.laws s.below) _ refl };
 
     fn size(&self) -> (usize, u32) {
-        let (span, energy) = self.below.size();
-        match self.weight_over(span, energy) {
-            None => (span, energy),
-            Some(_) => (span + usize::from(self.delay), 2 * energy),
-        }
+        self.size
     }
 
     fn entry(&self, side: Side, k: usize) -> Option<P::Sample> {
-        let Some(w) = self.weight() else {
+        let Some(w) = self.weight else {
             return self.below.entry(side, k);
         };
         let delay = usize::from(self.delay);
@@ -123,11 +136,13 @@ impl<P: Pair> Pair for Stage<P> {
         }
     }
 
+    // Inlined, so that the sums of a stage reach the next one in registers and not through memory.
+    #[inline(always)]
     fn push(&mut self, x: P::Sample) -> (P::Sample, P::Sample) {
-        let Some(w) = self.weight() else {
-            return self.below.push(x);
-        };
         let (p, q) = self.below.push(x);
+        let Some(w) = self.weight else {
+            return (p, q);
+        };
         let oldest = self.line.exchange(self.delay, p);
         combined(w, oldest, q)
     }

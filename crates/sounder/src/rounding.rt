@@ -7,7 +7,10 @@ fn nearest(m: u64, e: u32) -> u128
     requires { 1 ≤ e }
     ensures { result ≡ (2 * m + e) / (2 * e) }
 {
-    (2 * u128::from(m) + u128::from(e)) / (2 * u128::from(e))
+    let e = u64::from(e);
+    // in 64 bits: a division of 128 takes several times as long
+    let (whole, rest) = (u128::from(m / e), m % e);
+    if 2 * rest >= e { whole + 1 } else { whole }
 }
 
 // The absolute value of z divided by e, rounded to the nearest, halves up.

@@ -20,9 +20,9 @@ module _ {S : Type 0} (k : RingOps S) {e : WordOps S} (encodes : SampleLaws e) w
   line_zero word s none d j = ap (λ t. latest k e t s.next d j) none ∙ ap (sample_of k e) (zeros_at 128 ((s.next + (256 - d) + j) % 128)) ∙ sample_zero word
 
 module _ {S : Type 0} (k : RingOps S) (e : WordOps S) (old new : DelayLine) (d : ℕ) (v : ℤ × ℤ) (h : d ≤ 128)
-    (put : words new.table ≡ written 128 (words old.table) (old.next % 128) v) (moved : new.next ≡ (old.next + 1) % 128) where
+    (put : words new.table ≡ written 128 (words old.table) (old.next % 128) v) (moved : new.next ≡ (old.next + 1) % 256) where
   abbrev at : ℕ → ℕ
-  at j = ((old.next + 1) % 128 + (256 - d) + j) % 128
+  at j = ((old.next + 1) % 256 + (256 - d) + j) % 128
 
   read : (j : ℕ) → delayed k e new d j ≡ sample_of k e (written 128 (words old.table) (old.next % 128) v (at j))
   read j = ap₂ (λ t n. latest k e t n d j) put moved
@@ -40,5 +40,5 @@ module _ {S : Type 0} (k : RingOps S) (e : WordOps S) (old new : DelayLine) (d :
       read j ∙ ap (sample_of k e) (cond-true _ _ _ (and_from _ _ (eq-eqb (at j) (old.next % 128) same) (lt-ltb (old.next % 128) 128 (omega arith))))
 
 pub line_last : {S : Type 0} (k : RingOps S) {e : WordOps S} → SampleLaws e → (old new : DelayLine) (d : ℕ) (x : S) → d ≤ 128
-    → words new.table ≡ written 128 (words old.table) (old.next % 128) (e.first x, e.second x) → new.next ≡ (old.next + 1) % 128 → (j : ℕ) → j + 1 ≡ d → delayed k e new d j ≡ x
+    → words new.table ≡ written 128 (words old.table) (old.next % 128) (e.first x, e.second x) → new.next ≡ (old.next + 1) % 256 → (j : ℕ) → j + 1 ≡ d → delayed k e new d j ≡ x
 line_last k {e} encodes old new d x h put moved j eq = newest k e old new d (e.first x, e.second x) h put moved j eq ∙ sample_back k encodes x

@@ -4,7 +4,7 @@ use Rattle.kinds.specs.Samples.{RingOps, WordOps}
 use Rattle.tables.specs.Tables.{words, sample_of}
 use Rattle.tables.specs.declared.line.DelayLine.{DelayLine}
 
--- the d latest values, oldest first, of a table of 128 places where `next` is the place of the next value
+-- the d latest values, oldest first, of a table of 128 places where the next value goes to place `next` modulo 128
 abbrev pub latest : {S : Type 0} → RingOps S → WordOps S → (ℕ → ℤ × ℤ) → ℕ → ℕ → ℕ → S
 latest k e table next d j = sample_of k e (table ((next + (256 - d) + j) % 128))
 

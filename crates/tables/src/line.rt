@@ -1,4 +1,4 @@
-ghost use Rattle.std.specs.Prelude.{◌≡◌, ◌+◌, ◌%◌, ◌<◌};
+ghost use Rattle.std.specs.Prelude.{◌≡◌, ◌+◌, ◌%◌};
 ghost use Rattle.tables.specs.Tables.{words, zeros, written};
 
 use crate::table::WordTable;
@@ -9,8 +9,8 @@ use kinds::Kind;
 #[derive(Drop)]
 pub struct DelayLine {
     table: WordTable<128>,
+    // how many values came in, modulo 256: the next one goes to this place modulo 128
     next: u8,
-    ghost inside: { next < 128 },
 }
 
 impl DelayLine {
@@ -31,12 +31,12 @@ impl DelayLine {
     pub fn exchange<K: Kind>(&mut self, delay: u8, latest: K) -> K
         ensures oldest { result ≡ delayed K.Kind.ring K.Kind.encoding self.old delay 0 }
         ensures table { words self.new.table ≡ written 128 (words self.old.table) (self.old.next % 128) (K.Kind.encoding.first latest, K.Kind.encoding.second latest) }
-        ensures next { self.new.next ≡ (self.old.next + 1) % 128 }
+        ensures next { self.new.next ≡ (self.old.next + 1) % 256 }
     {
-        let place = usize::from(self.next);
+        let place = usize::from(self.next % 128);
         let oldest = self.table.sample((place + 256 - usize::from(delay)) % 128);
+        self.next = self.next.wrapping_add(1);
         self.table.put(place, latest.words());
-        self.next = (self.next + 1) % 128;
         oldest
     }
 
