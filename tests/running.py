@@ -10,6 +10,7 @@ import os
 import pathlib
 import re
 import subprocess
+import tempfile
 import time
 
 from calls import replay
@@ -21,6 +22,7 @@ TOP = pathlib.Path(__file__).resolve().parent.parent
 SECONDS_PER_RUN = 60
 CASES_AT_ONCE = 512
 DIFFERENCES_SHOWN = 10
+BYTES_SHOWN = 240
 
 
 @dataclasses.dataclass(frozen=True)
@@ -37,7 +39,7 @@ class Case:
     input: bytes = b""
     words: tuple = ()
     pieces: int | None = None
-    source: pathlib.Path | None = None
+    source: pathlib.Path | str | None = None
     sink: str | None = None
     expected: bytes | None = None
     fails: bool = False
@@ -114,21 +116,32 @@ def opened(path, flags):
 
 
 def run(path, case):
-    """Runs a program at a path."""
+    """Runs a program at a path. One that does not end is ended, which its status tells."""
     with opened(case.source, os.O_RDONLY) as source, opened(case.sink, os.O_WRONLY) as sink:
         process = subprocess.Popen([path, *case.words], stdin=source, stdout=sink, stderr=subprocess.PIPE)
         at_once = case.input if case.source is None else None
         if case.pieces is not None:
             write_in_pieces(process.stdin, case.input, case.pieces)
             at_once = None
-        output, errors = process.communicate(at_once, timeout=SECONDS_PER_RUN)
+        try:
+            output, errors = process.communicate(at_once, timeout=SECONDS_PER_RUN)
+        except subprocess.TimeoutExpired:
+            process.kill()
+            output, errors = process.communicate()
     return Result(process.returncode, output or b"", errors.decode(errors="replace"))
 
 
 def shown(data):
-    """Bytes for a reader: text as text, others in hexadecimal."""
+    """Some bytes for a reader: text as text, others in hexadecimal."""
     is_text = re.fullmatch(rb"[\x20-\x7e\n]+", data)
-    return repr(data[:1200].decode()) if is_text else data[:400].hex(" ") or "nothing"
+    return repr(data[:BYTES_SHOWN].decode()) if is_text else data[:BYTES_SHOWN].hex(" ") or "nothing"
+
+
+def apart(output, expected):
+    """What two outputs say from shortly before the first byte in which they differ."""
+    same = os.path.commonprefix([output, expected])
+    start = max(0, len(same) - BYTES_SHOWN // 4)
+    return f"from byte {start} on {shown(output[start:])} and not {shown(expected[start:])}"
 
 
 def errors_fit(errors, line):
@@ -142,9 +155,9 @@ def differences_of(case, reference, result):
     """In what the result of a program, or the reference, is not what it should be."""
     found = []
     if case.expected not in (None, reference.output):
-        found.append(f"the reference says {shown(reference.output)} and not {shown(case.expected)}")
+        found.append(f"the reference says {apart(reference.output, case.expected)}")
     if result.output != reference.output:
-        found.append(f"standard output is {shown(result.output)} and not {shown(reference.output)}")
+        found.append(f"standard output is {apart(result.output, reference.output)}")
     if result.status != reference.status:
         found.append(f"the status is {result.status} and not {reference.status}")
     if not errors_fit(result.error, reference.error):
@@ -161,9 +174,11 @@ def examine(paths, case):
 # Running many cases
 
 def tell(case, differences):
-    """Says of a case in what it differs, with all that is needed to run it again."""
+    """Says of a case in what it differs, and keeps its input in a file so that it can be run again."""
+    with tempfile.NamedTemporaryFile(prefix=f"{case.program}-", suffix=".input", delete=False) as kept:
+        kept.write(case.input)
     print(f"{case.program}: case '{case.name}' differs: {'; '.join(differences)}")
-    print(f"    words {case.words!r}, input {shown(case.input)}", flush=True)
+    print(f"    words {case.words!r}, input in {kept.name}: {shown(case.input)}", flush=True)
 
 
 def batches(cases, size):
