@@ -8,7 +8,8 @@ sys.dont_write_bytecode = True
 here = pathlib.Path(__file__).resolve().parent
 sys.path.insert(0, str(here.parent / "reference"))
 
-from sounding import HALL, RADIO, codes, make_file, plus, report, room_record  # noqa: E402
+from definitions import HALL, RADIO, codes, plus, room_record  # noqa: E402
+from sounding import make_file, report  # noqa: E402
 
 
 def spread(seed):
@@ -36,11 +37,11 @@ def noisy(record, numbers, most):
 
 def write(name, file):
     (here / f"{name}.sounding").write_bytes(file)
-    status, output = report(file)
-    if status == 0:
-        (here / f"{name}.report").write_bytes(output)
+    result = report(file)
+    if result.status == 0:
+        (here / f"{name}.report").write_bytes(result.output)
     else:
-        print(f"{name}: {output.decode()}", end="")
+        print(f"{name}: {result.output.decode()}", end="")
 
 
 # The smallest one: one stage, the room 3, -1.
