@@ -1,13 +1,13 @@
 // Times one sounding, from the bytes of its file to the bytes of its report, by each method: bench [ROUNDS]
+#include "../include/echotaps.h"
 #include "correlators.h"
+#include <pthread.h>
 #include <stdio.h>
 #include <stdlib.h>
 #include <string.h>
 #include <time.h>
 
-int64_t echotaps_report(const uint8_t *file, size_t file_length, uint8_t *out, size_t out_length);
-
-enum { MOST_FILE = 3336, MOST_REPORT = 1030, RUNS = 21, METHODS = 4 };
+enum { MOST_FILE = 3336, MOST_REPORT = 1030, RUNS = 21, METHODS = 4, STACK = 1 << 18 };
 
 struct method {
     const char *name;
@@ -105,24 +105,75 @@ static int same_reports(const uint8_t *file, size_t length, int count) {
     return 1;
 }
 
+static uint8_t one_file[MOST_FILE];
+static size_t one_length;
+
+static void *one_report(void *unused) {
+    uint8_t out[MOST_REPORT];
+    (void)unused;
+    report_by(&methods[0], one_file, one_length, out);
+    return 0;
+}
+
+static void *no_report(void *unused) {
+    uint8_t out[MOST_REPORT];
+    (void)unused;
+    memset(out, 0, sizeof out);
+    return out[one_length % MOST_REPORT] ? one_file : 0;
+}
+
+// How many bytes of a stack a thread writes that runs this.
+static size_t stack_of(void *(*run)(void *)) {
+    static uint8_t stack[STACK] __attribute__((aligned(4096)));
+    pthread_attr_t attributes;
+    pthread_t thread;
+    size_t kept = 0;
+    memset(stack, 0xA5, sizeof stack);
+    pthread_attr_init(&attributes);
+    pthread_attr_setstack(&attributes, stack, sizeof stack);
+    if (pthread_create(&thread, &attributes, run, 0) == 0)
+        pthread_join(thread, 0);
+    pthread_attr_destroy(&attributes);
+    while (kept < sizeof stack && stack[kept] == 0xA5)
+        kept++;
+    return sizeof stack - kept;
+}
+
+static void print_stack(void) {
+    size_t most = 0, none = stack_of(no_report);
+    for (int i = 0; i < 4; i++) {
+        one_length = make_file(i < 2 ? HALL : RADIO, i % 2 ? 10 : 1, 7, one_file);
+        size_t used = stack_of(one_report);
+        most = used > most ? used : most;
+    }
+    printf("stack of the library's call: %zu bytes\n", most - none);
+}
+
+// One kind and kernel: the reports of many files compared, one of them timed.
+static int measure_all(int kind, int kernel, int rounds) {
+    static uint8_t file[MOST_FILE];
+    const char *name = kind == HALL ? "hall" : "radio";
+    double medians[METHODS];
+    int count = METHODS;
+    while (!methods[count - 1].name)
+        count--;
+    for (uint32_t seed = 1; seed <= 50; seed++)
+        if (!same_reports(file, make_file(kind, kernel, seed, file), count)) {
+            printf("%s, kernel %d, seed %u: the reports differ\n", name, kernel, seed);
+            return 0;
+        }
+    measure(file, make_file(kind, kernel, 7, file), rounds, count, medians);
+    printf("%s, span %d, room length %d\n", name, kernel == 1 ? 128 : 160, MOST_ROOM);
+    for (int m = 0; m < count; m++)
+        printf("  %-24s %8.2f us   library / this %6.2f\n", methods[m].name, medians[m], medians[0] / medians[m]);
+    return 1;
+}
+
 int main(int argc, char **argv) {
     int rounds = argc > 1 ? atoi(argv[1]) : 400;
-    int count = METHODS;
-    while (count > 0 && !methods[count - 1].name)
-        count--;
-    for (int i = 0; i < 4; i++) {
-        static uint8_t file[MOST_FILE];
-        double medians[METHODS];
-        int kind = i < 2 ? HALL : RADIO, kernel = i % 2 ? 10 : 1;
-        for (uint32_t seed = 1; seed <= 50; seed++)
-            if (!same_reports(file, make_file(kind, kernel, seed, file), count)) {
-                printf("%s, kernel %d, seed %u: the reports differ\n", kind == HALL ? "hall" : "radio", kernel, seed);
-                return 1;
-            }
-        measure(file, make_file(kind, kernel, 7, file), rounds, count, medians);
-        printf("%s, span %d, room length %d\n", kind == HALL ? "hall" : "radio", kernel == 1 ? 128 : 160, MOST_ROOM);
-        for (int m = 0; m < count; m++)
-            printf("  %-24s %8.2f us   library / this %6.2f\n", methods[m].name, medians[m], medians[0] / medians[m]);
-    }
+    for (int i = 0; i < 4; i++)
+        if (!measure_all(i < 2 ? HALL : RADIO, i % 2 ? 10 : 1, rounds))
+            return 1;
+    print_stack();
     return 0;
 }
