@@ -16,7 +16,6 @@ use Rattle.keys.specs.Judged.{judged}
 use Rattle.keys.specs.Plans.{Plan, plan}
 use Rattle.keys.specs.KeyCodes.{key_codes}
 use Rattle.calls.specs.declared.call.Call.TheVariants.{Sum, Tap}
-use Rattle.calls.specs.declared.call.Answer.{Answer}
 use Rattle.calls.specs.declared.call.Answer.TheVariants.{Done, Words}
 use Rattle.calls.specs.Answers.{full}
 use Rattle.calls.specs.Runs.{Run, new, answers, answer_after}
