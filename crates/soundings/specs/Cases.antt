@@ -126,5 +126,5 @@ Claims (codes key energy a b) = IsAccepted key × CodesClaim key.kind (plan_of k
 Claims (sounding key s) = IsAccepted key × SoundingClaim key.kind (plan_of key) s
 Claims (rounding energy sums taps) = map (λ z. rounded z energy) sums ≡ taps
 Claims (reported key s file bytes) = FileClaim key.kind (plan_of key) s file × IsReported file bytes
--- for each buffer that has place for the longest report
+-- with each buffer that has place for the longest report, of 1,030 bytes
 Claims (refused file refusal) = (space : ℕ) → 1030 ≤ space → first_refusal (input_tests file space) ≡ Some refusal

@@ -1,4 +1,4 @@
--- The case that a value of the program states.
+-- The case that a value of the program states. The program keeps its lists behind references, which have addresses, so its cases have types of their own.
 use Rattle.soundings.specs.Cases.{CaseKey, RoomSounding, Case, codes, sounding, rounding, reported, refused}
 use Rattle.soundings.specs.declared.case.CaseKey as of-key
 use Rattle.soundings.specs.declared.case.RoomSounding as of-sounding
