@@ -17,7 +17,7 @@ module _ {P S : Type 0} (k : KindModel S) (m : PairModel P S) where
   codes_in s = stage_codes k.ring (weight_in s) s.delay (codes_of m s.below)
 
   abbrev pub pending_in : Stage P S m k → Pending S
-  pending_in s = stage_pending k.ring (weight_in s) s.delay (delayed k.ring k.encoding s.line s.delay) (m.pending s.below)
+  pending_in s = stage_pending k.ring (weight_in s) s.delay (delayed k s.line s.delay) (m.pending s.below)
 
   -- the same as the members of the trait
   abbrev pub stage_model : PairModel (Stage P S m k) S

@@ -21,7 +21,7 @@ pub struct Stage<P: Pair> {
     // The weight, none where the stage rests, and the size: worked out once, as the codes of the pair below stay.
     weight: Option<P::Sample>,
     size: (usize, u32),
-    line: DelayLine,
+    line: DelayLine<P::Sample>,
     ghost weighed: { weight ≡ weight_of P.Sample.Kind.polar delay code (codes_of P.Pair below) },
     ghost sized: { size ≡ size_of (stage_codes P.Sample.Kind.ring (weight_of P.Sample.Kind.polar delay code (codes_of P.Pair below)) delay (codes_of P.Pair below)) },
 }
@@ -73,7 +73,7 @@ impl<P: Pair> Stage<P> {
     ghost use Rattle.pairs.specs.Stages.{codes_in, pending_in};
 
     // A stage over a line that keeps zeros.
-    fn with_line(below: P, delay: u8, code: u8, line: DelayLine) -> Self
+    fn with_line(below: P, delay: u8, code: u8, line: DelayLine<P::Sample>) -> Self
         requires { words line.table ≡ zeros 128 }
         ensures codes { codes_in P.Sample.Kind P.Pair result ≡ stage_codes P.Sample.Kind.ring (weight_of P.Sample.Kind.polar delay code (codes_of P.Pair below)) delay (codes_of P.Pair below) }
         ensures lists { pending_in P.Sample.Kind P.Pair result ≡ stage_pending P.Sample.Kind.ring (weight_of P.Sample.Kind.polar delay code (codes_of P.Pair below)) delay (λ j. P.Sample.Kind.ring.zero) (P.Pair.pending below) }

@@ -1,6 +1,7 @@
 -- The values that a delay line keeps.
 use Rattle.std.specs.Prelude.{ℕ, ◌+◌, ◌-◌, ◌%◌, ℤ}
 use Rattle.kinds.specs.Samples.{RingOps, WordOps}
+use Rattle.kinds.specs.Kinds.{KindModel}
 use Rattle.tables.specs.Tables.{words, sample_of}
 use Rattle.tables.specs.declared.line.DelayLine.{DelayLine}
 
@@ -8,5 +9,5 @@ use Rattle.tables.specs.declared.line.DelayLine.{DelayLine}
 abbrev pub latest : {S : Type 0} → RingOps S → WordOps S → (ℕ → ℤ × ℤ) → ℕ → ℕ → ℕ → S
 latest k e table next d j = sample_of k e (table ((next + (256 - d) + j) % 128))
 
-abbrev pub delayed : {S : Type 0} → RingOps S → WordOps S → DelayLine → ℕ → ℕ → S
-delayed k e s d = latest k e (words s.table) s.next d
+abbrev pub delayed : {S : Type 0} (k : KindModel S) → DelayLine S k → ℕ → ℕ → S
+delayed k s d = latest k.ring k.encoding (words s.table) s.next d

@@ -1,5 +1,6 @@
 -- What a table of words holds: two words at each place, zeros past the last place.
-use Rattle.std.specs.Prelude.{ℕ, cond, ◌&&◌, List, replicate, ℤ, pos, Some, None, Option, ◌==◌, nat_lt, slice_index_or}
+use Rattle.std.specs.Prelude.{◌≡◌, ℕ, true, cond, ◌&&◌, List, replicate, ℤ, pos, Some, None, Option, ◌==◌, nat_lt, slice_index_or}
+use Rattle.std.specs.Option.{is_some}
 use Rattle.kinds.specs.Samples.{RingOps, WordOps}
 use Rattle.tables.specs.declared.table.WordTable.{WordTable}
 
@@ -21,6 +22,10 @@ written n f i v j = cond (j == i && nat_lt i n) v (f j)
 abbrev pub or_zero : {S : Type 0} → RingOps S → Option S → S
 or_zero k (Some x) = x
 or_zero k None = k.zero
+
+-- the words at each place are a sample's
+abbrev pub AreSamples : {S : Type 0} → WordOps S → (ℕ → ℤ × ℤ) → Type 0
+AreSamples e f = (i : ℕ) → is_some (e.sample (f i).0 (f i).1) ≡ true
 
 -- the sample of two words, zero where they are no sample's
 abbrev pub sample_of : {S : Type 0} → RingOps S → WordOps S → ℤ × ℤ → S

@@ -11,15 +11,6 @@ pub struct WordTable<const N: usize> {
     second: [i64; N],
 }
 
-// What words that are no sample's mean. Nothing writes such words, so this is kept off the way of a push.
-#[cold]
-#[inline(never)]
-fn no_sample<K: Kind>() -> K
-    ensures { result ≡ K.Kind.ring.zero }
-{
-    K::zero()
-}
-
 impl<const N: usize> WordTable<N> {
     pub fn new() -> Self
         ensures { words result ≡ zeros N }
@@ -60,6 +51,6 @@ impl<const N: usize> WordTable<N> {
         ensures { result ≡ sample_of K.Kind.ring K.Kind.encoding (words self.now place) }
     {
         let (first, second) = self.get(place);
-        K::from_words(first, second).unwrap_or_else(|| no_sample())
+        K::from_words(first, second).unwrap_or(K::zero())
     }
 }

@@ -10,4 +10,4 @@ returns-clause-lists g c =
     let kind = g.P.Sample.Kind in
     let laws = g.met.P.Sample.Kind in
     let a = c.args in
-    ap (λ kept. stage_pending kind.ring (weight_of kind.polar a.delay a.code (codes_of g.P.Pair a.below)) a.delay kept (g.P.Pair.pending a.below)) (fun_ext (line_zero kind.ring laws.encodes laws.wordwise a.line c.requires a.delay))
+    ap (λ kept. stage_pending kind.ring (weight_of kind.polar a.delay a.code (codes_of g.P.Pair a.below)) a.delay kept (g.P.Pair.pending a.below)) (fun_ext (line_zero kind laws.encodes laws.wordwise a.line c.requires a.delay))

@@ -13,6 +13,6 @@ returns-clause-lists g c =
     let s = c.args.self.now in
     let d = s.delay in
     let line = c.clear-2.new.self in
-    let kept = delayed kind.ring kind.encoding line d in
+    let kept = delayed kind line d in
     ap (stage_pending kind.ring (weight_of kind.polar d s.code (codes_of g.P.Pair c.clear.new.self)) d kept) c.clear.ensures.lists
-    ∙ stage_silent laws.algebra laws.conjugation _ d kept (line_zero kind.ring laws.encodes laws.wordwise line c.clear-2.ensures.table d)
+    ∙ stage_silent laws.algebra laws.conjugation _ d kept (line_zero kind laws.encodes laws.wordwise line c.clear-2.ensures.table d)

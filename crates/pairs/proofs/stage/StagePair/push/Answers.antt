@@ -17,7 +17,7 @@ returns-clause-sums g c =
     let weighed = sym c.in-Some.is ∙ s.weighed in
     let k = kind.ring in
     c.combined.ensures ∙ ap₂ (λ o q. (k.add (k.mul (k.conj w) o) q, k.sub (k.mul (k.conj w) o) q)) c.exchange-oldest.ensures.oldest (ap (λ r. r.1) c.push-p.ensures.sums)
-    ∙ stage_answer laws.algebra laws.conjugation kind.polar s.delay s.code (codes_of g.P.Pair s.below) weighed ((g.met.P.Pair.laws s.below).entry_outside A) (g.P.Pair.pending s.below) c.args.x (delayed k kind.encoding s.line s.delay)
+    ∙ stage_answer laws.algebra laws.conjugation kind.polar s.delay s.code (codes_of g.P.Pair s.below) weighed ((g.met.P.Pair.laws s.below).entry_outside A) (g.P.Pair.pending s.below) c.args.x (delayed kind s.line s.delay)
 
 pub returns-clause-lists : goal.returns-clause-lists
 returns-clause-lists g c =
@@ -30,7 +30,7 @@ returns-clause-lists g c =
     let line = c.exchange-oldest.ensures in
     let after = c.exchange-oldest.new.self in
     let most = (works_from_weight kind.polar d s.code (codes_of g.P.Pair s.below) _ weighed).delay_most in
-    ap₂ (λ m p. stage_pending k (weight_of kind.polar d s.code m) d (delayed k kind.encoding after d) p) c.push-p.ensures.same c.push-p.ensures.lists
-    ∙ stage_pushed laws.algebra laws.conjugation kind.polar d s.code (codes_of g.P.Pair s.below) weighed ((g.met.P.Pair.laws s.below).entry_outside A) (g.P.Pair.pending s.below) c.args.x (delayed k kind.encoding s.line d) _
-    (λ j h. line_moved k kind.encoding s.line after d _ most line.table line.next j h)
-    (λ j h. line_last k laws.encodes s.line after d _ most line.table line.next j h ∙ ap (λ r. r.0) c.push-p.ensures.sums)
+    ap₂ (λ m p. stage_pending k (weight_of kind.polar d s.code m) d (delayed kind after d) p) c.push-p.ensures.same c.push-p.ensures.lists
+    ∙ stage_pushed laws.algebra laws.conjugation kind.polar d s.code (codes_of g.P.Pair s.below) weighed ((g.met.P.Pair.laws s.below).entry_outside A) (g.P.Pair.pending s.below) c.args.x (delayed kind s.line d) _
+    (λ j h. line_moved kind s.line after d _ most line.table line.next j h)
+    (λ j h. line_last kind laws.encodes s.line after d _ most line.table line.next j h ∙ ap (λ r. r.0) c.push-p.ensures.sums)
