@@ -1,5 +1,5 @@
 -- The words of a text, as `split_ascii_whitespace` gives them.
-use Rattle.std.proofs.Common.{◌≡◌, ℕ, ◌+◌, ◌<◌, ◌≤◌, Bool, true, false, List, [], ◌∷◌, ◌++◌, length, get_or, refl, sym, ap, ◌∙◌, subst, arith, ⊎_elim, Some, None, Option}
+use Rattle.std.proofs.Common.{◌≡◌, ℕ, ◌+◌, ◌<◌, ◌≤◌, true, false, List, [], ◌∷◌, ◌++◌, length, get_or, refl, ap, ◌∙◌, subst, arith, ⊎_elim}
 use Rattle.std.specs.List.{All, AllPass, filter, slice_split}
 use Rattle.std.specs.Char.{is_ascii_whitespace}
 use Rattle.std.specs.Str.{NoCharPasses}
@@ -53,7 +53,7 @@ pub words_from : {s : _} (bs : List ℕ) → split_ascii_whitespace_text s ≡ b
 words_from {s} bs e =
     subst (λ b. YieldsList split_ascii_whitespace_steps (λ x. x.now) s (words_of b)) e
     (YieldsList-from_shown split_ascii_whitespace_steps (λ x. x.now) (λ u. words_of (split_ascii_whitespace_text u))
-        (λ u t h. ap length (of_blanks (split_ascii_whitespace_text u) h.0))
-        (λ u x t h.
-            ap words_of h.3.2 ∙ behind_gap h.3.0 _ h.3.3 ∙ behind_word x.now h.3.1 (split_ascii_whitespace_text t) h.0 (plain_word x.now h.1) h.3.4)
-        s)
+    (λ u t h. ap length (of_blanks (split_ascii_whitespace_text u) h.0))
+    (λ u x t h.
+    ap words_of h.3.2 ∙ behind_gap h.3.0 _ h.3.3 ∙ behind_word x.now h.3.1 (split_ascii_whitespace_text t) h.0 (plain_word x.now h.1) h.3.4)
+    s)

@@ -73,6 +73,7 @@ pub fn calls_of(heap: Global, lines: &[&str]) -> Result<Vec<Event>, Stop>
     ensures stop { IfErr result (λ e. StopsAt e (wrong_line 2 (all_now lines.now))) }
 {
     let mut events = Vec::new(heap);
+    // by number: a line that is no call is told by its place
     for (i, line) in lines.iter().enumerate() {
         let event = call_line(heap, line, i + 2)?;
         keep(&mut events, event)?;

@@ -1,5 +1,5 @@
 // What is printed: the lines of the script with their answers.
-ghost use Rattle.std.specs.Prelude.{◌≡◌, ◌++◌, length, IfOk, IfErr, Some, string_bytes, OnOk};
+ghost use Rattle.std.specs.Prelude.{◌≡◌, length, IfOk, IfErr, Some, string_bytes};
 ghost use Rattle.keys.specs.Refusals.{refusal_text};
 ghost use Rattle.calls.specs.Runs.{answers_of};
 ghost use Rattle.calls.specs.Texts.{answer_text};
@@ -43,12 +43,7 @@ fn answered_call(heap: Global, line: &str, answer: Answer) -> Result<String, All
 }
 
 // The key line, and each call with its answer.
-fn sheet(
-    heap: Global,
-    first: &str,
-    lines: &[&str],
-    events: &[Event],
-) -> Result<String, AllocError>
+fn sheet(heap: Global, first: &str, lines: &[&str], events: &[Event]) -> Result<String, AllocError>
     requires { length lines.now ≡ length events.now }
     ensures { IfOk result (λ s. string_bytes s ≡ sheet_of first.now (all_now lines.now) (answers_of events.now)) }
 {
