@@ -1,1 +1,3 @@
 pub mod KeyRuns
+pub mod Scripts
+pub mod Sheets

@@ -6,9 +6,13 @@ mod sheet;
 mod sounding;
 mod stop;
 
-use crate::script::{calls_of, first_line, key_line};
-use crate::sheet::{refused_key, sheet};
-use crate::sounding::run_over;
+ghost use Rattle.std.specs.Prelude.{IfOk, MatchResult, ◌≡◌};
+ghost use Rattle.std.specs.Process.{exit_status};
+ghost use Rattle.keys.specs.Judged.{judged};
+ghost use Rattle.kinds.specs.KindNames.{roots};
+
+use crate::script::{key_line, lines_of};
+use crate::sheet::{refused_key, transcript};
 use crate::stop::Stop;
 use kinds::hall::Hall;
 use kinds::radio::Radio;
@@ -20,31 +24,52 @@ use std::process::ExitCode;
 
 // Gives the calls to a sounder over the key that is asked for, filled for the kind K, and prints the answers
 // as one text, or why the key is refused. codes has such a function too: what both do stands in KeyWords::key.
-fn answer<K: Kind>(rt: &HostRuntime, asked: &KeyWords, script: &str) -> Result<ExitCode, Stop> {
+// The status is 0 exactly if the key is accepted.
+fn answer<K: Kind>(
+    rt: &HostRuntime,
+    asked: &KeyWords,
+    first: &str,
+    lines: &[&str],
+) -> Result<ExitCode, Stop>
+    ensures { IfOk result (λ code. MatchResult (judged K.Kind.polar.count asked.now.kernel asked.now.stages.items) (λ _. exit_status code ≡ 0) (λ _. exit_status code ≡ 1)) }
+{
     let heap = rt.alloc();
     match asked.key::<K>() {
         Ok(key) => {
-            let mut events = calls_of(heap, script)?;
-            run_over::<K>(&key, events.as_mut_slice());
-            rt.print(sheet(heap, script, events.as_slice())?)?;
+            rt.print(transcript::<K>(heap, &key, first, lines)?)?;
             Ok(ExitCode::SUCCESS)
         }
         Err(refusal) => {
-            rt.print(refused_key(heap, script, refusal)?)?;
+            rt.print(refused_key(heap, first, refusal)?)?;
             Ok(ExitCode::FAILURE)
         }
     }
 }
 
-fn run(rt: &HostRuntime) -> Result<ExitCode, Stop> {
-    let script = io::read_to_string(rt.alloc(), rt.stdin())?;
-    let script = script.as_str();
-    let asked = key_line(rt.alloc(), first_line(script))?.ok_or(Stop::NoKey)?;
+// The same for the kind that is named.
+fn answer_by_kind(
+    rt: &HostRuntime,
+    asked: &KeyWords,
+    first: &str,
+    lines: &[&str],
+) -> Result<ExitCode, Stop>
+    ensures { IfOk result (λ code. MatchResult (judged (roots asked.now.kind) asked.now.kernel asked.now.stages.items) (λ _. exit_status code ≡ 0) (λ _. exit_status code ≡ 1)) }
+{
     // each kind is a type of its own, so a name picks one of two calls
     match asked.kind {
-        KindName::Hall => answer::<Hall>(rt, &asked, script),
-        KindName::Radio => answer::<Radio>(rt, &asked, script),
+        KindName::Hall => answer::<Hall>(rt, asked, first, lines),
+        KindName::Radio => answer::<Radio>(rt, asked, first, lines),
     }
+}
+
+fn run(rt: &HostRuntime) -> Result<ExitCode, Stop> {
+    let script = io::read_to_string(rt.alloc(), rt.stdin())?;
+    let lines = lines_of(rt.alloc(), script.as_str())?;
+    let [first, lines @ ..] = lines.as_slice() else {
+        return Err(Stop::NoKey);
+    };
+    let asked = key_line(rt.alloc(), first)?.ok_or(Stop::NoKey)?;
+    answer_by_kind(rt, &asked, first, lines)
 }
 
 fn main(rt: HostRuntime) -> ExitCode {

@@ -1,41 +1,82 @@
 // A script: a key line, and then one call a line.
+ghost use Rattle.std.specs.Prelude.{◌≡◌, ◌++◌, ◌∷◌, [], length, IfOk, IfErr, OnOk, Some};
+ghost use Rattle.std.specs.Option.{option_map};
+ghost use Rattle.std.specs.Str.Lines.{lines};
+ghost use Rattle.calls.specs.Runs.{calls_of};
+ghost use Rattle.scripts.specs.Keys.{asked};
+ghost use Rattle.scripts.specs.Texts.{all_now};
+ghost use Rattle.replay.specs.Scripts.{words_of, asked_by, asked_in, call_in, calls_in, wrong_line, unless_call, StopsAt};
+
 use crate::stop::Stop;
 use calls::{Answer, Event};
 use scripts::{KeyWords, call_of, key_words};
 use std::alloc::{AllocError, Global};
 
+// The lines of a script.
+pub fn lines_of<'a>(heap: Global, script: &'a str) -> Result<Vec<&'a str>, AllocError>
+    ensures { IfOk result (λ v. all_now v.items ≡ lines script.now) }
+{
+    script.lines().collect(heap)
+}
+
 // The words of a line, which are separated by one or more ASCII blanks.
-pub fn words_of<'a>(heap: Global, line: &'a str) -> Result<Vec<&'a str>, AllocError> {
+pub fn words_of<'a>(heap: Global, line: &'a str) -> Result<Vec<&'a str>, AllocError>
+    ensures { IfOk result (λ v. all_now v.items ≡ words_of line.now) }
+{
     line.split_ascii_whitespace().collect(heap)
 }
 
-// The first line, empty if there is none.
-pub fn first_line(script: &str) -> &str {
-    script.lines().next().unwrap_or("")
-}
-
-// What the key line asks for, absent if the line is none.
-pub fn key_line(heap: Global, line: &str) -> Result<Option<KeyWords>, AllocError> {
-    match words_of(heap, line)?.as_slice() {
-        ["key", words @ ..] => key_words(heap, words),
-        _ => Ok(None),
+// What the words of a key line ask for, absent if they are none.
+fn key_asked(heap: Global, words: &[&str]) -> Result<Option<KeyWords>, AllocError>
+    ensures { IfOk result (λ r. option_map asked r ≡ asked_by (all_now words.now)) }
+{
+    match words {
+        [] => Ok(None),
+        [word, words @ ..] => match *word {
+            "key" => key_words(heap, words),
+            _ => Ok(None),
+        },
     }
 }
 
+// What the key line asks for, absent if the line is none.
+pub fn key_line(heap: Global, line: &str) -> Result<Option<KeyWords>, AllocError>
+    ensures { IfOk result (λ r. option_map asked r ≡ asked_in line.now) }
+{
+    let words = words_of(heap, line)?;
+    key_asked(heap, words.as_slice())
+}
+
 // The call of the line of this number. The answer that stands beside it is still to be given.
-fn call_line(heap: Global, line: &str, number: usize) -> Result<Event, Stop> {
+fn call_line(heap: Global, line: &str, number: usize) -> Result<Event, Stop>
+    ensures call { IfOk result (λ e. call_in line.now ≡ Some e.call) }
+    ensures stop { IfErr result (λ e. StopsAt e (unless_call number (call_in line.now) None)) }
+{
     let words = words_of(heap, line)?;
     let call = call_of(words.as_slice()).ok_or(Stop::NoCall(number))?;
     let answer = Answer::Done;
     Ok(Event { call, answer })
 }
 
-// The calls of all lines after the first.
-pub fn calls_of(heap: Global, script: &str) -> Result<Vec<Event>, Stop> {
-    script
-        .lines()
-        .skip(1)
-        .zip(2..)
-        .map(|(line, number)| -> Result<Event, Stop> { call_line(heap, line, number) })
-        .try_collect(heap)
+// Puts an event behind the others: a call of its own, so that its error is one that `Stop` is made of.
+fn keep(events: &mut Vec<Event>, event: Event) -> Result<(), AllocError>
+    ensures { OnOk result (events.new.items ≡ events.old.items ++ (event ∷ [])) }
+{
+    events.push(event)?;
+    Ok(())
+}
+
+// The calls of the lines after the first, of which the first has the number 2.
+pub fn calls_of(heap: Global, lines: &[&str]) -> Result<Vec<Event>, Stop>
+    ensures calls { IfOk result (λ v. calls_in (all_now lines.now) ≡ Some (calls_of v.items)) }
+    ensures count { IfOk result (λ v. length v.items ≡ length lines.now) }
+    ensures stop { IfErr result (λ e. StopsAt e (wrong_line 2 (all_now lines.now))) }
+{
+    let mut events = Vec::new(heap);
+    // by number: a line that is no call is told by its place
+    for (i, line) in lines.iter().enumerate() {
+        let event = call_line(heap, line, i + 2)?;
+        keep(&mut events, event)?;
+    }
+    Ok(events)
 }

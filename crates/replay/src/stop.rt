@@ -1,4 +1,6 @@
 // Why a run ends early.
+ghost use Rattle.replay.specs.Scripts.{IsFailure};
+
 use std::alloc::AllocError;
 use std::io;
 use thiserror::Error;
@@ -17,6 +19,8 @@ pub enum Stop {
 
 // An io::Error tells of memory in its own words, so this is no variant of its own.
 impl From<AllocError> for Stop {
+    ghost from_gives = { λ _ stop. IsFailure stop };
+
     fn from(error: AllocError) -> Stop {
         Stop::Failed(error.into())
     }
