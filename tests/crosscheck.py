@@ -1,7 +1,7 @@
 #!/usr/bin/env python3
 """Compares the three programs with the reference on many generated inputs.
 
-    python3 tests/crosscheck.py [--seed N] [--times N] [--jobs N] [--echotaps PATH] [--replay PATH] [--codes PATH]
+    python3 tests/crosscheck.py [--seed N] [--times N] [--jobs N] [--only PROGRAM] [--echotaps PATH] [--replay PATH] [--codes PATH]
 
 docs/testing.md tells what is compared and what the counts mean.
 """
@@ -77,10 +77,10 @@ def tell_counts(program, seen):
 
 def unseen(seen):
     """What can be seen of the programs and was not, and the other way round."""
-    for program in PROGRAMS:
+    for program in seen:
         for number in sorted(NUMBERS[program] ^ set(seen[program].numbers)):
             yield f"{program}: refusal {number} was seen {seen[program].numbers[number]} times"
-    for answer in sorted(ANSWERS_TO_CALLS ^ set(seen["replay"].answers), key=str):
+    for answer in sorted(ANSWERS_TO_CALLS ^ set(seen["replay"].answers), key=str) if "replay" in seen else ():
         yield f"replay: {answer} was seen {seen['replay'].answers[answer]} times"
 
 
@@ -89,6 +89,7 @@ def parsed_arguments():
     parser.add_argument("--seed", type=int, default=DEFAULT_SEED, help="of the random cases")
     parser.add_argument("--times", type=int, default=1, help="how many times as many random cases")
     parser.add_argument("--jobs", type=int, default=DEFAULT_JOBS, help="how many cases at the same time")
+    parser.add_argument("--only", choices=PROGRAMS, help="the program that is compared; all three if not given")
     for program in PROGRAMS:
         built = TOP / "crates" / program / "out" / program
         parser.add_argument(f"--{program}", default=built, help=f"the program, {built.relative_to(TOP)} if not given")
@@ -97,12 +98,14 @@ def parsed_arguments():
 
 def main():
     arguments = parsed_arguments()
-    paths = {program: os.path.abspath(getattr(arguments, program)) for program in PROGRAMS}
+    programs = PROGRAMS if arguments.only is None else (arguments.only,)
+    paths = {program: os.path.abspath(getattr(arguments, program)) for program in programs}
+    cases = (case for case in all_cases(arguments.seed, arguments.times) if case.program in paths)
     begin = time.monotonic()
-    seen = run_all(paths, all_cases(arguments.seed, arguments.times), arguments.jobs)
-    for program in PROGRAMS:
+    seen = run_all(paths, cases, arguments.jobs)
+    for program in programs:
         tell_counts(program, seen[program])
-    calls = sum(seen["replay"].answers.values())
+    calls = sum(seen["replay"].answers.values()) if "replay" in seen else 0
     print(f"seed {arguments.seed}, times {arguments.times}: {calls} calls in the scripts, "
           f"{time.monotonic() - begin:.0f} seconds")
     missing = list(unseen(seen))

@@ -1,14 +1,10 @@
 #!/usr/bin/env python3
-"""Tries planted bugs: python3 tools/planted.py [--scratch FOLDER] [--seconds N] [--only WORD] [--markdown FILE] [--reports FOLDER] [--together] [CRATE]...
+"""Tries planted bugs: python3 tools/planted.py [--scratch FOLDER] [--seconds N] [--only WORD] [--markdown FILE] [--reports FOLDER] [CRATE]...
 
 Each file tools/planted/CRATE/NAME.edit is one wrong edit of the crate, in the form of the must-fail edits, with a line
 'what: TEXT' more. Each is tried alone in a copy of the tree outside the repository: `rt check` of the crate either
 refuses it, or lets it through. What is let through in a program, or in `programs`, is built and given to the tests of
 the program. At the end comes a table.
-
-With --together bugs in different functions of a crate are tried in one check, for speed: a bug counts as refused only if
-the proof of its own function fails, and not for a function that it calls; else nothing is known of it, and it has to be
-tried alone.
 """
 
 import argparse
@@ -25,13 +21,14 @@ import time
 
 TOP = pathlib.Path(__file__).resolve().parent.parent
 
-REFUSED, PASSED, UNREAD, UNKNOWN = "refused", "passed", "unread", "unknown"
+# Refused because a fact fails; only because a proof names what the edit took away; let through; not read; not known.
+REFUSED, NAMES_GONE, PASSED, UNREAD, UNKNOWN = "refused", "names gone", "passed", "unread", "unknown"
 
 # The programs, the words and the input of the run that builds each, and its tests.
 PROGRAMS = {
     "codes": (["--", "hall", "1"], None, ["sh", "tests/codes-cli.sh"]),
     "replay": ([], "crates/replay/stdin", ["sh", "tests/replay-cli.sh"]),
-    "echotaps": ([], "crates/echotaps/stdin", ["python3", "tests/echotaps-cli.py"]),
+    "echotaps": ([], "crates/echotaps/stdin", ["python3", "tests/crosscheck.py", "--only", "echotaps", "--echotaps"]),
 }
 
 Bug = collections.namedtuple("Bug", "crate name what file pairs")
@@ -93,13 +90,20 @@ def first_fact(output):
     return ": ".join([*functions[:1], first.removeprefix("note: ")])
 
 
+def names_are_gone(output):
+    """Whether no goal is open, and all that fails is a proof that names a field that is gone."""
+    errors = re.findall(r"^(?:\./)?(?:src|proofs|specs)/\S+: error: (?!\d+ declarations? that depend)(.*)$", output, re.M)
+    open_goal = re.search(r"^fn \S+: no proof: expected answers", output, re.M)
+    return bool(errors) and not open_goal and all("has no field" in error for error in errors)
+
+
 def judged(status, output):
     """Whether a check refused the crate, and the first fact that it names."""
     last = output.rstrip("\n").split("\n")[-1]
     if status == 0:
         return PASSED, ""
     if status == 1 and "logic=not-proved" in output:
-        return REFUSED, first_fact(output)
+        return NAMES_GONE if names_are_gone(output) else REFUSED, first_fact(output)
     if status == 1 and re.search(r"\berror\[[\w-]+\]", output):
         return UNREAD, re.search(r".*\berror\[[\w-]+\].*", output).group(0)
     return UNKNOWN, f"status {status}: {last}"
@@ -143,56 +147,6 @@ def tried(tree, bug, seconds, reports=None):
     return Outcome(kind, told, seen, time.monotonic() - begun)
 
 
-def function_of(bug, text):
-    """The name of the function in which the first edit of a bug stands."""
-    return re.findall(r"\bfn (\w+)", text[:text.index(bug.pairs[0][0])])[-1:] or ["?"]
-
-
-def meets(bug, other):
-    """Whether one of two bugs writes what the other looks for."""
-    return bug.file == other.file and any(
-        old in new for one, two in ((bug, other), (other, bug)) for old, _ in one.pairs for _, new in two.pairs)
-
-
-def apart(tree, bugs):
-    """The bugs in lists in which no two stand in functions of one name, or meet."""
-    lists = []
-    for bug in bugs:
-        [name] = function_of(bug, (tree / "crates" / bug.crate / bug.file).read_text(encoding="utf-8"))
-        room = next((one for one in lists if name not in one and not any(meets(bug, other) for other in one.values())), None)
-        if room is None:
-            lists.append(room := {})
-        room[name] = bug
-    return lists
-
-
-def own_failures(report):
-    """The functions whose own proofs fail: of which a goal is open, or whose proof file has an error of its own."""
-    goals = re.findall(r"^fn ((?:\S+::)?(\w+)): (?:no proof: expected answers|not proved$)", report, re.M)
-    files = re.findall(r"^(?:\./)?(proofs/(?:\S+/)?(\w+)/\w+\.antt:\d+):\d+: error: (?!\d+ declarations? that depend)", report, re.M)
-    return {name: where for where, name in files + goals}
-
-
-def tried_together(tree, by_name, seconds, reports=None):
-    """Applies bugs in functions of different names, checks their crate, and takes them back."""
-    saved, begun = {}, time.monotonic()
-    try:
-        for bug in by_name.values():
-            place = tree / "crates" / bug.crate / bug.file
-            saved.setdefault(place, place.read_text(encoding="utf-8"))
-            place.write_text(edited(bug, place.read_text(encoding="utf-8")), encoding="utf-8")
-        status, report = run(["rt", "check"], tree / "crates" / bug.crate, seconds)
-    finally:
-        for place, before in saved.items():
-            place.write_text(before, encoding="utf-8")
-    if reports:
-        pathlib.Path(reports, f"{bug.crate}-together-{bug.name}").write_text(report, encoding="utf-8")
-    failed = own_failures(report) if status == 1 and "logic=not-proved" in report else {}
-    seconds = (time.monotonic() - begun) / len(by_name)
-    return [(bug, Outcome(REFUSED, f"{failed[name]}: tried together", "", seconds) if name in failed else Outcome(UNKNOWN, f"{name}: to be tried alone", "", seconds))
-            for name, bug in by_name.items()]
-
-
 def copied(scratch):
     """A copy of the tree with what its checks kept, in a new folder outside the repository."""
     tree = pathlib.Path(tempfile.mkdtemp(prefix="planted-", dir=scratch)) / "tree"
@@ -218,7 +172,7 @@ def row(bug, outcome):
 
 def counts(outcomes):
     kinds = collections.Counter(outcome.kind for _, outcome in outcomes)
-    return f"{len(outcomes)} planted: " + ", ".join(f"{kinds[kind]} {kind}" for kind in (REFUSED, PASSED, UNREAD, UNKNOWN))
+    return f"{len(outcomes)} planted: " + ", ".join(f"{kinds[kind]} {kind}" for kind in (REFUSED, NAMES_GONE, PASSED, UNREAD, UNKNOWN))
 
 
 def table(outcomes):
@@ -241,7 +195,6 @@ def arguments():
     parser.add_argument("--only", default="", help="only bugs whose names hold this text")
     parser.add_argument("--markdown", help="a file that gets the table too")
     parser.add_argument("--reports", help="a folder that gets the whole report of each check")
-    parser.add_argument("--together", action="store_true", help="try bugs in different functions of a crate in one check")
     parser.add_argument("crates", nargs="*", help="names of crates; none: all")
     return parser.parse_args()
 
@@ -252,12 +205,8 @@ def tries(tree, bugs, words):
     for crate in crates:
         if not base_is_proved(tree, crate, 4 * words.seconds):
             raise SystemExit(f"{crate} is not proved as it stands")
-        mine = [bug for bug in bugs if bug.crate == crate]
-        if words.together:
-            for by_name in apart(tree, mine):
-                yield from tried_together(tree, by_name, words.seconds, words.reports)
-        else:
-            for bug in mine:
+        for bug in bugs:
+            if bug.crate == crate:
                 yield bug, tried(tree, bug, words.seconds, words.reports)
 
 
@@ -277,7 +226,7 @@ def main():
     print(table(outcomes))
     if words.markdown:
         pathlib.Path(words.markdown).write_text(table(outcomes) + "\n", encoding="utf-8")
-    return 0 if all(outcome.kind in (REFUSED, PASSED) for _, outcome in outcomes) else 1
+    return 0 if all(outcome.kind in (REFUSED, NAMES_GONE, PASSED) for _, outcome in outcomes) else 1
 
 
 if __name__ == "__main__":
