@@ -1,4 +1,4 @@
-ghost use Rattle.std.specs.Prelude.{◌≡◌, ◌≤◌, [], length};
+ghost use Rattle.std.specs.Prelude.{◌≡◌, [], take};
 
 use crate::stage::KeyStage;
 use std::marker::Model;
@@ -38,16 +38,14 @@ impl Stages {
         }
     }
 
+    // The first seven: all stages of a key that passed its tests.
     pub(crate) fn from_slice(stages: &[KeyStage]) -> Self
-        requires { length stages.now ≤ 7 }
-        ensures { result ≡ stages.now }
+        ensures { result ≡ take 7 stages.now }
     {
+        let count = stages.len().min(7);
         let mut held = [KeyStage::AT_REST; 7];
-        held[..stages.len()].copy_from_slice(stages);
-        Stages {
-            held,
-            count: stages.len(),
-        }
+        held[..count].copy_from_slice(&stages[..count]);
+        Stages { held, count }
     }
 
     pub(crate) fn as_slice(&self) -> &[KeyStage]

@@ -1,7 +1,7 @@
 -- What is read from a file that passes the tests.
 use Rattle.std.specs.Prelude.{◌≡◌, ℕ, ◌+◌, ◌*◌, ◌≤◌, List, length, drop}
 use Rattle.layout.specs.declared.head.Head.{Head}
-use Rattle.layout.specs.declared.fields.Fields.{Fields}
+use Rattle.layout.specs.declared.parsing.Fields.{Fields}
 use Rattle.layout.specs.declared.sounding.Sounding.{Sounding}
 use Rattle.layout.specs.Fields.{kind_of, kernel_of, count_of, two_bytes, stages_in, plan_in, room_byte_of, room_of, record_byte, records_of}
 

@@ -1,9 +1,7 @@
 // Sounding files as bytes: their fields, the tests on them in their order, and the refusals of files.
 #![tactic(auto)]
 
-mod fields;
 mod head;
-mod key;
 mod parsing;
 mod refusal;
 mod sounding;

@@ -3,15 +3,13 @@ ghost use Rattle.calls.specs.declared.refusal.Refusal.TheVariants.{WrongPhase, R
 ghost use Rattle.sums.specs.Codes.{PairLaws, arriving, pushed};
 ghost use Rattle.pairs.specs.Pairs.{codes_of};
 ghost use Rattle.tables.specs.Tables.{words, sample_of};
-ghost use Rattle.calls.specs.Answers.{done, worded, full};
-ghost use Rattle.sounder.specs.States.{state, state_of, fresh, playing, gathered, took, moved, sum_read, says, Does};
+ghost use Rattle.calls.specs.Answers.{done, full};
+ghost use Rattle.sounder.specs.States.{state, state_of, fresh, playing, gathered, took, moved, says, Does};
 
-use crate::rounding::divided;
 use crate::state::Sounder;
 use calls::{Answer, Call, Phase, Refusal};
 use kinds::Kind;
 use pairs::Pair;
-use sums::Side;
 use tables::WordTable;
 
 // The index of the sum that comes out with sample `count` of a record, if one does.
@@ -70,7 +68,7 @@ impl<P: Pair> Sounder<P> {
     }
 
     // Refuses a call that the phase does not allow.
-    fn allow(&self, allowed: bool) -> Result<(), Refusal>
+    pub(crate) fn allow(&self, allowed: bool) -> Result<(), Refusal>
         ensures { result ≡ (if allowed then Ok tt else Err (WrongPhase self.now.phase)) }
     {
         if allowed {
@@ -189,43 +187,6 @@ impl<P: Pair> Sounder<P> {
     {
         self.phase = Phase::Idle;
         Ok(())
-    }
-
-    // The words of entry `index` of code A (side 0) or B (side 1).
-    pub fn code(&self, side: u8, index: usize) -> Result<(i64, i64), Refusal>
-        ensures { worded result ≡ says P.Sample.Kind (Call.Code side index) (state_of P.Sample.Kind P.Pair self.now) }
-    {
-        let side = Side::try_from(side).map_err(|_| Refusal::Index(index))?;
-        let x = self.pair.entry(side, index).ok_or(Refusal::Index(index))?;
-        Ok(x.words())
-    }
-
-    // A sum, if there is one to be read.
-    fn sum_at(&self, index: usize) -> Result<P::Sample, Refusal>
-        ensures { result ≡ sum_read (state_of P.Sample.Kind P.Pair self.now) index }
-    {
-        self.allow(self.phase.may_read())?;
-        if index >= self.room {
-            return Err(Refusal::Index(index));
-        }
-        Ok(self.sums.sample(index))
-    }
-
-    // The words of a sum.
-    pub fn sum(&self, index: usize) -> Result<(i64, i64), Refusal>
-        ensures { worded result ≡ says P.Sample.Kind (Call.Sum index) (state_of P.Sample.Kind P.Pair self.now) }
-    {
-        let x = self.sum_at(index)?;
-        Ok(x.words())
-    }
-
-    // Each word of a sum divided by the energy, rounded to the nearest, halves away from zero.
-    pub fn tap(&self, index: usize) -> Result<(i64, i64), Refusal>
-        ensures { worded result ≡ says P.Sample.Kind (Call.Tap index) (state_of P.Sample.Kind P.Pair self.now) }
-    {
-        let (first, second) = self.sum_at(index)?.words();
-        let energy = self.pair.energy();
-        Ok((divided(first, energy), divided(second, energy)))
     }
 }
 

@@ -2,7 +2,7 @@
 #![tactic(auto)]
 
 mod calling;
-mod rounding;
+mod reading;
 mod running;
 mod state;
 

@@ -1,6 +1,5 @@
 // The two codes of a key, entry by entry, and their correlations.
-use crate::key_refusals::stage;
-use crate::pairs_pushes::check_correlation;
+use crate::{check_correlation, stage};
 use keys::{Key, KeyStage};
 use kinds::Kind;
 use kinds::hall::Hall;

@@ -1,4 +1,5 @@
 // Which numbers a key refuses, with which number and place, and that a refusal leaves the key as it was.
+use crate::stage;
 use keys::{Key, KeyRefusal, KeyStage, check_kernel, check_stage_count, delays_fit};
 use kinds::Kind;
 use kinds::hall::Hall;
@@ -6,10 +7,6 @@ use kinds::radio::Radio;
 use refusals::{Refused, Told};
 use std::process::Abort;
 use std::test::Fail;
-
-pub(crate) fn stage(delay: u8, code: u8) -> KeyStage {
-    KeyStage { delay, code }
-}
 
 // A filling for the kind K is refused with this number and place, and leaves the key as it was.
 fn check_refused<K: Kind>(

@@ -1,12 +1,8 @@
 // The arithmetic of both kinds, at the edges of the words too.
+use crate::sample;
 use kinds::Kind;
 use kinds::hall::Hall;
 use kinds::radio::Radio;
-
-// The sample of two words, or zero if they are no sample's.
-pub(crate) fn sample<K: Kind>(first: i64, second: i64) -> K {
-    K::from_words(first, second).unwrap_or(K::zero())
-}
 
 // The root of a code, or zero if it has none.
 fn root<K: Kind>(code: u8) -> K {

@@ -1,5 +1,5 @@
 // Samples pushed through kernels and stages, and the tables that they lie in.
-use crate::kinds_arithmetic::sample;
+use crate::{check_correlation, sample};
 use kinds::Kind;
 use kinds::hall::Hall;
 use kinds::radio::Radio;
@@ -109,20 +109,6 @@ fn stages_that_rest(rt: HostRuntime) {
     check_rests(&rt, &mut radio);
     let turned: Stage<Kernel<Radio>> = unit_stage(1, 3);
     assert_eq!(rt; turned.size(), (2, 4));
-}
-
-// Code A is pushed through one pair and code B through another with the same codes, zeros after them.
-// What comes out on the same side adds up to the energy as the last entries come in, and to zero else.
-pub(crate) fn check_correlation<P: Pair + Drop>(rt: &impl Abort, mut one: P, mut other: P) {
-    let (span, energy) = one.size();
-    for t in 0..400 {
-        let a = one.entry_or_zero(Side::A, t);
-        let b = other.entry_or_zero(Side::B, t);
-        let (p, _) = one.push(a);
-        let (_, q) = other.push(b);
-        let wanted = if t + 1 == span { i64::from(energy) } else { 0 };
-        assert_eq!(rt; p.sum(q).words(), (wanted, 0));
-    }
 }
 
 #[test]

@@ -5,7 +5,7 @@ use Rattle.files.specs.Samples.{samples_in}
 use Rattle.files.specs.Soundings.{sample_calls}
 use Rattle.files.specs.Order.{sample_test, sample_tests}
 use Rattle.files.specs.States.{led, Took}
-use Rattle.files.proofs.feeding.feed.Given as goal
+use Rattle.files.proofs.sounding.feed.Given as goal
 
 abbrev pub invariant-loop-t : goal.invariant-loop-t
 invariant-loop-t g l =

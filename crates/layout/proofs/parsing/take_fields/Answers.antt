@@ -5,7 +5,7 @@ use Rattle.layout.specs.declared.refusal.FileRefusal.TheVariants.{Length}
 use Rattle.layout.proofs.Missing.{stage_missing, room_missing, fields_there}
 use Rattle.layout.proofs.Rests.{rests_are}
 use Rattle.layout.proofs.Stages.{left_length, past_length, room_in, next_stage, stages_more}
-use Rattle.layout.proofs.fields.take_fields.Goals as goal
+use Rattle.layout.proofs.parsing.take_fields.Goals as goal
 
 pub returns-in_default : goal.returns-in_default
 returns-in_default c =

@@ -3,7 +3,7 @@ use Rattle.std.proofs.lemmas.List.FromFn.{length-map-range_with_len, map-range_w
 use Rattle.calls.specs.declared.call.Call.TheVariants.{Tap}
 use Rattle.sounder.specs.States.{state_of, says}
 use Rattle.files.specs.Soundings.{words_in}
-use Rattle.files.proofs.taps.gather.Goals as goal
+use Rattle.files.proofs.sounding.gather.Goals as goal
 
 pub push-requires : goal.push-requires
 push-requires g c =

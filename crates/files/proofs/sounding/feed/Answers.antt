@@ -12,7 +12,7 @@ use Rattle.files.specs.Order.{sample_test}
 use Rattle.files.specs.Soundings.{sample_calls}
 use Rattle.files.specs.States.{led, Took}
 use Rattle.files.proofs.Steps.{none_refused, led_more, took_next, test_is}
-use Rattle.files.proofs.feeding.feed.Goals as goal
+use Rattle.files.proofs.sounding.feed.Goals as goal
 
 abbrev none : ℤ × ℤ
 none = (pos 0, pos 0)
