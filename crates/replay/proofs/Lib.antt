@@ -1,2 +1,4 @@
-mod Stops
 mod Words
+mod Reading
+mod CallLines
+mod SheetLines

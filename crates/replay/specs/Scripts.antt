@@ -1,5 +1,5 @@
 -- A script: a key line, and then one call a line.
-use Rattle.std.specs.Prelude.{◌≡◌, ℕ, ◌+◌, cond, Bool, true, false, List, [], ◌∷◌, Some, None, Option, length, nat_lt, codes}
+use Rattle.std.specs.Prelude.{◌≡◌, ℕ, ◌+◌, cond, Bool, true, false, List, [], ◌∷◌, Some, None, Option, length, drop, nat_lt, codes}
 use Rattle.std.specs.List.{filter, slice_split}
 use Rattle.std.specs.Char.{is_ascii_whitespace}
 use Rattle.std.specs.Option.{option_map}
@@ -22,6 +22,15 @@ words_of line = filter has_bytes (slice_split is_ascii_whitespace line)
 abbrev pub asked_by : List (List ℕ) → Option Asked
 asked_by [] = None
 asked_by (word ∷ words) = cond (bytes_eq word (codes "key")) (key_words_of words) None
+
+-- the first line of a script, empty if there is none
+abbrev pub first_of : List (List ℕ) → List ℕ
+first_of [] = []
+first_of (line ∷ lines) = line
+
+-- the lines behind the first
+abbrev pub behind_first : List (List ℕ) → List (List ℕ)
+behind_first lines = drop 1 lines
 
 -- what a key line asks for
 abbrev pub asked_in : List ℕ → Option Asked

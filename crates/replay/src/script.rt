@@ -5,18 +5,19 @@ ghost use Rattle.std.specs.Str.Lines.{lines};
 ghost use Rattle.calls.specs.Runs.{calls_of};
 ghost use Rattle.scripts.specs.Keys.{asked};
 ghost use Rattle.scripts.specs.Texts.{all_now};
-ghost use Rattle.replay.specs.Scripts.{words_of, asked_by, asked_in, call_in, calls_in, wrong_line, unless_call, StopsAt};
+ghost use Rattle.replay.specs.Scripts.{words_of, asked_by, asked_in, call_in, calls_in, wrong_line, unless_call, first_of, behind_first, StopsAt};
 
 use crate::stop::Stop;
 use calls::{Answer, Event};
 use scripts::{KeyWords, call_of, key_words};
 use std::alloc::{AllocError, Global};
 
-// The lines of a script.
-pub fn lines_of<'a>(heap: Global, script: &'a str) -> Result<Vec<&'a str>, AllocError>
-    ensures { IfOk result (λ v. all_now v.items ≡ lines script.now) }
+// The first line, empty if there is none.
+#[tactic(auto, using(crate::proofs::Reading::first_is))]
+pub fn first_line(script: &str) -> &str
+    ensures { result.now ≡ first_of (lines script.now) }
 {
-    script.lines().collect(heap)
+    script.lines().next().unwrap_or("")
 }
 
 // The words of a line, which are separated by one or more ASCII blanks.
@@ -66,15 +67,17 @@ fn keep(events: &mut Vec<Event>, event: Event) -> Result<(), AllocError>
     Ok(())
 }
 
-// The calls of the lines after the first, of which the first has the number 2.
-pub fn calls_of(heap: Global, lines: &[&str]) -> Result<Vec<Event>, Stop>
-    ensures calls { IfOk result (λ v. calls_in (all_now lines.now) ≡ Some (calls_of v.items)) }
-    ensures count { IfOk result (λ v. length v.items ≡ length lines.now) }
-    ensures stop { IfErr result (λ e. StopsAt e (wrong_line 2 (all_now lines.now))) }
+// The calls of the lines after the first, of which the first has the number 2. The lines are read one by one, here and
+// where they are printed again: a list of them would take memory, and all of them before the first wrong one is told.
+#[tactic(auto, using(crate::proofs::CallLines::call_read))]
+pub fn calls_of(heap: Global, script: &str) -> Result<Vec<Event>, Stop>
+    ensures calls { IfOk result (λ v. calls_in (behind_first (lines script.now)) ≡ Some (calls_of v.items)) }
+    ensures count { IfOk result (λ v. length v.items ≡ length (behind_first (lines script.now))) }
+    ensures stop { IfErr result (λ e. StopsAt e (wrong_line 2 (behind_first (lines script.now)))) }
 {
     let mut events = Vec::new(heap);
     // by number: a line that is no call is told by its place
-    for (i, line) in lines.iter().enumerate() {
+    for (i, line) in script.lines().skip(1).enumerate() {
         let event = call_line(heap, line, i + 2)?;
         keep(&mut events, event)?;
     }

@@ -1,13 +1,14 @@
 // What is printed: the lines of the script with their answers.
 ghost use Rattle.std.specs.Prelude.{◌≡◌, length, IfOk, IfErr, Some, string_bytes};
+ghost use Rattle.std.specs.Str.Lines.{lines};
 ghost use Rattle.keys.specs.Refusals.{refusal_text};
 ghost use Rattle.calls.specs.Runs.{answers_of};
 ghost use Rattle.calls.specs.Texts.{answer_text};
-ghost use Rattle.scripts.specs.Texts.{all_now, answered};
-ghost use Rattle.replay.specs.Scripts.{wrong_line, StopsAt};
+ghost use Rattle.scripts.specs.Texts.{answered};
+ghost use Rattle.replay.specs.Scripts.{wrong_line, first_of, behind_first, StopsAt};
 ghost use Rattle.replay.specs.Sheets.{again, sheet_of, transcript_of};
 
-use crate::script::{calls_of, words_of};
+use crate::script::{calls_of, first_line, words_of};
 use crate::sounding::run_over;
 use crate::stop::Stop;
 use calls::{Answer, Event};
@@ -43,14 +44,16 @@ fn answered_call(heap: Global, line: &str, answer: Answer) -> Result<String, All
 }
 
 // The key line, and each call with its answer.
-fn sheet(heap: Global, first: &str, lines: &[&str], events: &[Event]) -> Result<String, AllocError>
-    requires { length lines.now ≡ length events.now }
-    ensures { IfOk result (λ s. string_bytes s ≡ sheet_of first.now (all_now lines.now) (answers_of events.now)) }
+#[tactic(auto, using(crate::proofs::SheetLines::line_written))]
+fn sheet(heap: Global, script: &str, events: &[Event]) -> Result<String, AllocError>
+    requires { length (behind_first (lines script.now)) ≡ length events.now }
+    ensures { IfOk result (λ s. string_bytes s ≡ sheet_of (first_of (lines script.now)) (behind_first (lines script.now)) (answers_of events.now)) }
 {
-    let mut text = again(heap, first)?;
+    let mut text = again(heap, first_line(script))?;
     text.push_str("\n")?;
     // by number: two lists of one length
-    for (i, line) in lines.iter().enumerate() {
+    for (i, line) in script.lines().skip(1).enumerate() {
+        prove!(i < events.len());
         let answered = answered_call(heap, line, events[i].answer)?;
         text.push_str(answered.as_str())?;
     }
@@ -58,16 +61,11 @@ fn sheet(heap: Global, first: &str, lines: &[&str], events: &[Event]) -> Result<
 }
 
 // What is printed for a key: its line, and each of the calls with the answer of a sounder over the pair of the key.
-pub fn transcript<K: Kind>(
-    heap: Global,
-    key: &Key,
-    first: &str,
-    lines: &[&str],
-) -> Result<String, Stop>
-    ensures text { IfOk result (λ s. transcript_of K.Kind key.now first.now (all_now lines.now) ≡ Some (string_bytes s)) }
-    ensures stop { IfErr result (λ e. StopsAt e (wrong_line 2 (all_now lines.now))) }
+pub fn transcript<K: Kind>(heap: Global, key: &Key, script: &str) -> Result<String, Stop>
+    ensures text { IfOk result (λ s. transcript_of K.Kind key.now (first_of (lines script.now)) (behind_first (lines script.now)) ≡ Some (string_bytes s)) }
+    ensures stop { IfErr result (λ e. StopsAt e (wrong_line 2 (behind_first (lines script.now)))) }
 {
-    let mut events = calls_of(heap, lines)?;
+    let mut events = calls_of(heap, script)?;
     run_over::<K>(key, events.as_mut_slice());
-    Ok(sheet(heap, first, lines, events.as_slice())?)
+    Ok(sheet(heap, script, events.as_slice())?)
 }

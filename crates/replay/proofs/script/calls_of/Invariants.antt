@@ -1,13 +1,9 @@
-use Rattle.std.proofs.Common.{◌≡◌, ◌+◌, ◌++◌, List, drop, length}
-use Rattle.std.specs.Option.{option_map}
-use Rattle.calls.specs.declared.call.Call.{Call}
-use Rattle.calls.specs.Runs.{calls_of}
-use Rattle.scripts.specs.Texts.{all_now}
-use Rattle.replay.specs.Scripts.{calls_in, wrong_line}
+use Rattle.std.specs.Iterator.Adapters.{skip_steps}
+use Rattle.std.specs.Str.Iter.{lines_steps}
+use Rattle.std.specs.Str.Lines.{lines}
+use Rattle.replay.specs.Scripts.{behind_first}
+use Rattle.replay.proofs.CallLines.{CallsRead}
 use Rattle.replay.proofs.script.calls_of.Given as goal
 
 abbrev pub invariant-loop-i : goal.invariant-loop-i
-invariant-loop-i l =
-    (option_map (λ (more : List Call). calls_of l.events.items ++ more) (calls_in (all_now (drop l.i l.lines))) ≡ calls_in (all_now l.lines))
-    × (length l.events.items ≡ l.i)
-    × (wrong_line (l.i + 2) (all_now (drop l.i l.lines)) ≡ wrong_line 2 (all_now l.lines))
+invariant-loop-i l = CallsRead (skip_steps lines_steps) (behind_first (lines l.script)) l.i-iterator l.events.items

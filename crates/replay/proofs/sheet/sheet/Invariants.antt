@@ -1,8 +1,10 @@
-use Rattle.std.proofs.Common.{◌≡◌, ◌++◌, drop, string_bytes}
-use Rattle.calls.specs.Runs.{answers_of}
-use Rattle.scripts.specs.Texts.{all_now}
-use Rattle.replay.specs.Sheets.{answered_lines, sheet_of}
+use Rattle.std.proofs.Common.{string_bytes}
+use Rattle.std.specs.Iterator.Adapters.{skip_steps}
+use Rattle.std.specs.Str.Iter.{lines_steps}
+use Rattle.std.specs.Str.Lines.{lines}
+use Rattle.replay.specs.Scripts.{first_of, behind_first}
+use Rattle.replay.proofs.SheetLines.{Written}
 use Rattle.replay.proofs.sheet.sheet.Given as goal
 
 abbrev pub invariant-loop-i : goal.invariant-loop-i
-invariant-loop-i l = string_bytes l.text ++ answered_lines (all_now (drop l.i l.lines)) (answers_of (drop l.i l.events)) ≡ sheet_of l.first (all_now l.lines) (answers_of l.events)
+invariant-loop-i l = Written (skip_steps lines_steps) (first_of (lines l.script)) (behind_first (lines l.script)) l.events l.i-iterator (string_bytes l.text)
