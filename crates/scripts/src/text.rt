@@ -7,6 +7,7 @@ ghost use Rattle.scripts.specs.Texts.{all_now, behind, line_of, answered};
 use calls::Answer;
 use keys::KeyRefusal;
 use std::alloc::{AllocError, Global};
+use std::fmt::Write;
 
 // Puts a blank and a word behind the text.
 fn push_word(text: &mut String, word: &str) -> Result<(), AllocError>
@@ -56,5 +57,8 @@ pub fn key_refusal_text(heap: Global, refusal: KeyRefusal) -> Result<String, All
 pub fn answer_text(heap: Global, answer: Answer) -> Result<String, AllocError>
     ensures { IfOk result (λ s. string_bytes s ≡ answer_text answer) }
 {
-    answer.to_string(heap)
+    // room for the usual answer at once: `to_string` begins with none, and took a third longer for ok
+    let mut text = String::with_capacity(heap, 32)?;
+    write!(text, "{answer}")?;
+    Ok(text)
 }
