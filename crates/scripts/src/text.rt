@@ -57,8 +57,9 @@ pub fn key_refusal_text(heap: Global, refusal: KeyRefusal) -> Result<String, All
 pub fn answer_text(heap: Global, answer: Answer) -> Result<String, AllocError>
     ensures { IfOk result (λ s. string_bytes s ≡ answer_text answer) }
 {
-    // room for the usual answer at once: `to_string` begins with none, and took a third longer for ok
-    let mut text = String::with_capacity(heap, 32)?;
+    // room for most answers at once, in the smallest block of a usual heap: `to_string` begins with none, and took a
+    // third longer for ok
+    let mut text = String::with_capacity(heap, 24)?;
     write!(text, "{answer}")?;
     Ok(text)
 }
